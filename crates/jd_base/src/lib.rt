@@ -1,10 +1,23 @@
-//! The base of all crates: numbers of declarations, sorts, and want of memory.
+//! The base of all crates: numbers of declarations, sorts, want of memory, and the program's
+//! outside: libraries of files that are read, and sinks to which the output is written.
 #![tactic(auto)]
 
 mod ids;
 mod memory;
+mod memory_files;
+mod memory_sink;
+mod outside;
+mod real_files;
 mod sort;
+#[cfg(test)]
+mod tests;
+mod whole;
 
 pub use ids::{ClassId, FamilyId, FieldId, MethodId};
 pub use memory::{NoMemory, copy_bytes};
+pub use memory_files::MemoryLibrary;
+pub use memory_sink::MemorySink;
+pub use outside::{Failed, Library, Sink};
+pub use real_files::{FileLibrary, StdSink};
 pub use sort::{ConstDecl, Sort};
+pub use whole::{ReadRefusal, read_whole, write_all};
