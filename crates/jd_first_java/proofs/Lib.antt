@@ -1,0 +1,5 @@
+pub mod Along
+pub mod Forms
+pub mod Mapped
+pub mod Meaning
+pub mod Decimals

@@ -1,0 +1,4 @@
+pub mod Alphabet
+pub mod Programs
+pub mod Outlines
+pub mod Reads
