@@ -1,0 +1,4 @@
+pub mod CodeLemmas
+pub mod Lists
+pub mod NameTests
+pub mod SxLemmas

@@ -1,0 +1,2 @@
+pub mod Binderless
+pub mod Places
