@@ -1,0 +1,4 @@
+pub mod Contexts
+pub mod Places
+pub mod Nodes
+pub mod Sequents

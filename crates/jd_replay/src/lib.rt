@@ -1,0 +1,8 @@
+//! Replay of proof scripts over any set of rules.
+#![tactic(auto)]
+
+mod verdict;
+mod walk;
+
+pub use verdict::{Cause, Verdict};
+pub use walk::replay;

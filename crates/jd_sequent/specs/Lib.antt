@@ -1,0 +1,6 @@
+pub mod Derives
+pub mod Limits
+pub mod Obligations
+pub mod Rules
+pub mod Steps
+pub mod Trees

@@ -1,0 +1,15 @@
+//! Proof scripts, obligations, and what a set of rules is.
+#![tactic(auto)]
+
+mod bad;
+mod limits;
+mod obligation;
+mod rule;
+mod script;
+
+pub use bad::Bad;
+pub use jd_model::{Node, Place, Sequent, Side};
+pub use limits::is_within_limits;
+pub use obligation::{LoopForm, Obligation, Task};
+pub use rule::RuleSet;
+pub use script::{ScriptNode, ScriptTree, Step, one_tree};
