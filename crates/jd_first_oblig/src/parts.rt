@@ -1,0 +1,76 @@
+ghost use Rattle.std.specs.Prelude.{◌≡◌, true, ◌∷◌, [], IfOk, map};
+ghost use Rattle.jd_base.specs.declared.sort.Sort.TheVariants.{Bool as BoolSort};
+ghost use Rattle.jd_syntax.specs.Codes.{OfClass, Then, Done};
+ghost use Rattle.jd_syntax.specs.CodeViews.{stmt_view, code_view};
+ghost use Rattle.jd_syntax.specs.Names.{var_view};
+ghost use Rattle.jd_term.specs.Terms.{ProgramVariable, Select, CreatedField, Boolean};
+ghost use Rattle.jd_term.specs.TermViews.{term_view};
+ghost use Rattle.jd_term.specs.Formulas.{formula_view, And as Both, Implies as Implied, Not as Negated, Equal as SameTerm};
+ghost use Rattle.jd_first_oblig.specs.Obligations.{conjunction};
+
+use jd_base::NoMemory;
+use jd_syntax::{Code, CodeStmt};
+use jd_term::{Formula, Term};
+use std::alloc::Global;
+
+pub fn boxed(alloc: Global, formula: Formula) -> Result<Box<Formula>, NoMemory>
+    ensures { IfOk result (λ b. b.value ≡ formula) }
+{
+    Ok(Box::new(alloc, formula)?)
+}
+
+pub fn boxed_term(alloc: Global, term: Term) -> Result<Box<Term>, NoMemory>
+    ensures { IfOk result (λ b. b.value ≡ term) }
+{
+    Ok(Box::new(alloc, term)?)
+}
+
+pub fn both(alloc: Global, left: Formula, right: Formula) -> Result<Formula, NoMemory>
+    ensures { IfOk result (λ f. formula_view f ≡ Both (formula_view left) (formula_view right)) }
+{
+    Ok(Formula::And(boxed(alloc, left)?, boxed(alloc, right)?))
+}
+
+pub fn implied(alloc: Global, left: Formula, right: Formula) -> Result<Formula, NoMemory>
+    ensures { IfOk result (λ f. formula_view f ≡ Implied (formula_view left) (formula_view right)) }
+{
+    Ok(Formula::Implies(boxed(alloc, left)?, boxed(alloc, right)?))
+}
+
+pub fn negated(alloc: Global, formula: Formula) -> Result<Formula, NoMemory>
+    ensures { IfOk result (λ f. formula_view f ≡ Negated (formula_view formula)) }
+{
+    Ok(Formula::Not(boxed(alloc, formula)?))
+}
+
+/// The conjunction of the members, grouped to the right.
+pub fn conjoined(alloc: Global, mut members: Vec<Formula>) -> Result<Formula, NoMemory>
+    ensures { IfOk result (λ f. formula_view f ≡ conjunction (map formula_view members.items)) }
+{
+    let Some(last) = members.pop() else {
+        return Ok(Formula::TrueFormula)
+    };
+    let mut whole = last;
+    while let Some(member) = members.pop() {
+        whole = both(alloc, member, whole)?;
+    }
+    Ok(whole)
+}
+
+/// The code of one statement.
+pub fn alone(alloc: Global, stmt: CodeStmt) -> Result<Code, NoMemory>
+    ensures { IfOk result (λ c. code_view c ≡ Then (stmt_view stmt) Done) }
+{
+    let mut stmts = Vec::new(alloc);
+    stmts.push(stmt)?;
+    Ok(Code { stmts })
+}
+
+/// The code of no statement.
+pub fn no_statement(alloc: Global) -> Code
+    ensures { code_view result ≡ Done }
+{
+    Code {
+        stmts: Vec::new(alloc),
+    }
+}

@@ -1,0 +1,8 @@
+use Rattle.std.proofs.Common.{◌≡◌, map, take}
+use Rattle.jd_model.specs.Sequents.{sequent_view}
+use Rattle.jd_first_rules.specs.Rows.{goal_premise}
+use Rattle.jd_first_rules.specs.Goals.{goal_view}
+use Rattle.jd_first_rules.proofs.rows.premises.Given as goal
+
+abbrev pub invariant-loop-goal : goal.invariant-loop-goal
+invariant-loop-goal l = map sequent_view l.out.items ≡ map (goal_premise (sequent_view l.sequent) l.side l.index) (map goal_view (take l.goal-index l.goals))

@@ -1,0 +1,14 @@
+//! The twelve rules of the first replay.
+#![tactic(auto)]
+
+mod focus;
+mod names;
+mod parts;
+mod rewrite;
+mod rows;
+mod rules;
+mod set;
+mod step;
+
+pub use rules::{FirstRule, Kind};
+pub use set::FirstRules;

@@ -1,0 +1,86 @@
+ghost use Rattle.std.specs.Prelude.{◌≡◌, ◌↔◌, IsTrue, All, map};
+ghost use Rattle.jd_model.specs.Sequents.{sequent_view};
+ghost use Rattle.jd_sequent.specs.Steps.{step_view};
+ghost use Rattle.jd_sequent.specs.Limits.{IsWithinLimits};
+ghost use Rattle.jd_first_rules.specs.Results.{Gives};
+ghost use Rattle.jd_first_rules.specs.Steps.{IsStep};
+ghost use Rattle.jd_first_rules.specs.Instances.{IsInstance};
+ghost use Rattle.jd_first_rules.specs.Laws.{IsNoInstance, takes_all, no_cause, one_way, few};
+
+use crate::names::named;
+use crate::rules::{FirstRule, Kind};
+use crate::step::{close, kind, rewrite, row};
+use jd_model::Sequent;
+use jd_sequent::{Bad, RuleSet, Step, Task, is_within_limits};
+use std::alloc::Global;
+
+/// The twelve rules as one set. It takes every sequent.
+#[derive(Clone, Copy, Debug)]
+pub struct FirstRules;
+
+// A step of a rule.
+fn applied(
+    alloc: Global,
+    rule: FirstRule,
+    sequent: &Sequent,
+    step: &Step,
+) -> Result<Vec<Sequent>, Bad>
+    ensures { Gives (IsStep rule (sequent_view sequent.now) (step_view step.now)) result }
+{
+    match kind(rule) {
+        Kind::Closing => close(alloc, sequent, step),
+        Kind::Whole => row(alloc, rule, sequent, step),
+        Kind::Anywhere => rewrite(alloc, rule, sequent, step),
+    }
+}
+
+// Whether all premises are within the limits.
+fn are_within(premises: &[Sequent]) -> bool
+    ensures { IsTrue result ↔ All IsWithinLimits (map sequent_view premises.now) }
+{
+    for premise in premises {
+        if !is_within_limits(premise) {
+            return false;
+        }
+    }
+    true
+}
+
+impl RuleSet for FirstRules {
+    ghost accepts = { λ r t s. Unit {0} };
+
+    ghost instance = { λ r t s p ps. IsInstance s p ps };
+
+    ghost cause = { λ r t s p n. IsNoInstance s p };
+
+    fn apply(
+        &self,
+        alloc: Global,
+        _task: &Task<'_>,
+        sequent: &Sequent,
+        step: &Step,
+    ) -> Result<Vec<Sequent>, Bad> {
+        let Some(rule) = named(&step.rule) else {
+            return Err(Bad::UnknownRule)
+        };
+        let premises = match applied(alloc, rule, sequent, step) {
+            Err(bad) => return Err(bad),
+            Ok(premises) => premises,
+        };
+        if !step.insts.is_empty() {
+            return Err(Bad::BadInst);
+        }
+        if !are_within(&premises) {
+            return Err(Bad::TooLarge);
+        }
+        Ok(premises)
+    }
+
+    ghost keeps = { λ r t s p ps a i. takes_all ps };
+
+    ghost has_no_cause = { λ r t s p ps n l c. no_cause s p ps l c };
+
+    ghost one_way = { λ r t s p ps qs a b. one_way s p ps qs a b };
+
+    ghost few = { λ r t s p ps a. few s p ps a };
+}

@@ -1,0 +1,10 @@
+pub mod Complete
+pub mod Files
+pub mod Joining
+pub mod Nodes
+pub mod Numbers
+pub mod Parts
+pub mod PlaceText
+pub mod Rules
+pub mod Runs
+pub mod Sound
