@@ -1,0 +1,1 @@
+class T { /*@ ensures \result == x; @*/ static int id(int x) { return x; } }

@@ -1,0 +1,85 @@
+-- How long reports are.
+use Rattle.std.proofs.Common.{◌≤◌, ◌+◌, ◌*◌, ◌/◌, ◌%◌, ℕ, zero, suc, Bool, true, false, cond, List, [], ◌∷◌, length, ap, subst, arith, length-append}
+use Rattle.std.specs.Prelude.{◌==◌}
+use Rattle.std.specs.List.{All}
+use Rattle.std.specs.Fmt.{decimal, digits, digits_onto, digit_glyph}
+use Rattle.std.proofs.lemmas.List.Elements.{All-cons, All-get_or, All-map}
+use Rattle.jd_lexemes.specs.Lexemes.{Lexeme, Spells}
+use Rattle.jd_lexemes.specs.declared.alphabet.Class.{Class}
+use Rattle.jd_model.specs.Sequents.{PlainSequent}
+use Rattle.jd_sequent.specs.Trees.{PlainStep, steps_in}
+use Rattle.jd_sequent.specs.declared.bad.Bad.{Bad}
+use Rattle.jd_sequent.specs.declared.bad.Bad.TheVariants.{UnknownRule, NoFormula, NoPlace, WrongPlaceKind, NoMatch, MissingInst, BadInst, NoAssume, NotFresh, SideCondition, NoContract, NoDecreases, TooLarge, NoMemory}
+use Rattle.jd_replay.specs.declared.verdict.Cause.{Cause}
+use Rattle.jd_replay.specs.declared.verdict.Cause.TheVariants.{Rule, BranchCount}
+use Rattle.jd_first_java.specs.Alphabet.{java_class}
+use Rattle.jd_first_java.specs.Programs.{Program, written}
+use Rattle.jd_first_java.specs.Reads as java
+use Rattle.jd_first_script.specs.Scripts.{PlainScript}
+use Rattle.jd_first_oblig.specs.Obligations.{obligation_name}
+use Rattle.jdl.specs.Reports.{IsReport, missing, closed, opened, broken, bad_kind, cause_text}
+use Rattle.jdl.specs.declared.status.Status.{Status}
+
+either_within : (b : Bool) (xs ys : List ℕ) (m : ℕ) → length xs ≤ m → length ys ≤ m → length (cond b xs ys) ≤ m
+either_within true xs ys m one other = one
+either_within false xs ys m one other = other
+
+-- each turn puts down one digit
+digits_within : (k base : ℕ) (upper : Bool) (n : ℕ) (acc : List ℕ) (m : ℕ) → k + length acc ≤ m → length (digits_onto k base upper n acc) ≤ m
+digits_within zero base upper n acc m few = omega arith
+digits_within (suc k) base upper n acc m few =
+    let more = digit_glyph upper (n % base) ∷ acc in
+    either_within (n / base == 0) more (digits_onto k base upper (n / base) more) m (omega arith) (digits_within k base upper (n / base) more m (omega arith))
+
+-- a number has at most 64 digits
+pub length-decimal : (n : ℕ) → length (decimal n) ≤ 64
+unfolding digits
+length-decimal n = digits_within 64 10 false n [] 64 (omega arith)
+
+length-bad_kind : (b : Bad) → length (bad_kind b) ≤ 20
+length-bad_kind UnknownRule = omega arith
+length-bad_kind NoFormula = omega arith
+length-bad_kind NoPlace = omega arith
+length-bad_kind WrongPlaceKind = omega arith
+length-bad_kind NoMatch = omega arith
+length-bad_kind MissingInst = omega arith
+length-bad_kind BadInst = omega arith
+length-bad_kind NoAssume = omega arith
+length-bad_kind NotFresh = omega arith
+length-bad_kind SideCondition = omega arith
+length-bad_kind NoContract = omega arith
+length-bad_kind NoDecreases = omega arith
+length-bad_kind TooLarge = omega arith
+length-bad_kind NoMemory = omega arith
+
+length-cause : (c : Cause) → length (cause_text c) ≤ 150
+length-cause (Rule bad) = omega (arith, length-bad_kind bad)
+length-cause (BranchCount script rule) =
+    omega (arith, length-decimal script, length-decimal rule, length-append (decimal script) (32 ∷ decimal rule))
+
+-- a report has at most 300 bytes beside the name
+pub length-report : (leads : PlainSequent → PlainStep → List PlainSequent → Type 0) (name : List ℕ) (goal : PlainSequent) (s : PlainScript) (status : Status) (text : List ℕ) → IsReport leads name goal s status text → length text ≤ length name + 300
+length-report leads name goal s status text (missing none) =
+    simp length-append (omega arith)
+length-report leads name goal s status text (closed tree one derived) =
+    let few = length-decimal (steps_in tree) in simp length-append (omega arith)
+length-report leads name goal s status text (opened tree goals one derived some) =
+    let few = length-decimal (length goals) in simp length-append (omega arith)
+length-report leads name goal s status text (broken tree node cause one none) =
+    let few = length-decimal node in let more = length-cause cause in simp length-append (omega arith)
+
+-- no lexeme is longer than the bytes
+spelled_within : (class : ℕ → Class) (ls : List Lexeme) (at : ℕ) (bytes : List ℕ) (m : ℕ) → length bytes ≤ m → Spells class ls at bytes → All (λ l. length l.text ≤ m) ls
+spelled_within class [] at bytes m few s = λ k d below. absurd (omega arith)
+spelled_within class (l ∷ ls) at bytes m few s =
+    let parts = simp length-append at (ap length s.2) in
+    All-cons (λ l. length l.text ≤ m) l ls (omega arith) (spelled_within class ls (l.at + length l.text) s.1 m (omega arith) s.6)
+
+-- the name of an obligation is short against the file
+pub length-name : (bytes : List ℕ) (q : Program) → java.Reads bytes q → length (obligation_name q) ≤ 2 * length bytes + 4
+length-name bytes q reads =
+    let lexemes = spelled_within java_class reads.lexemes 0 bytes (length bytes) (omega arith) reads.spelled in
+    let texts = subst (λ ts. All (λ t. length t ≤ length bytes) ts) reads.form (All-map (λ t. length t ≤ length bytes) (λ l. l.text) reads.lexemes lexemes) in
+    let class : length q.class ≤ length bytes = All-get_or (λ t. length t ≤ length bytes) (written q) 1 [] (omega arith) texts in
+    let method : length q.method ≤ length bytes = All-get_or (λ t. length t ≤ length bytes) (written q) 12 [] (omega arith) texts in
+    simp length-append (omega arith)

@@ -1,0 +1,9 @@
+pub mod Derivations
+pub mod Judged
+pub mod Lengths
+pub mod Outcomes
+pub mod Reading
+pub mod Replays
+pub mod Texts
+pub mod Unique
+pub mod Verdicts

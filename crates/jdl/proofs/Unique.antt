@@ -1,0 +1,171 @@
+-- The answer's status is determined.
+use Rattle.std.proofs.Common.{◌≡◌, ◌<◌, inl, inr, ℕ, List, length, Option, Some, None, ap, sym, refl, subst, ◌∙◌, arith}
+use Rattle.jd_model.specs.Sequents.{PlainSequent}
+use Rattle.jd_sequent.specs.Trees.{PlainStep}
+use Rattle.jd_first_java.specs.Programs.{Program}
+use Rattle.jd_first_java.specs.Reads as java
+use Rattle.jd_first_java.proofs.Meaning.{one_meaning}
+use Rattle.jd_first_script.specs.Scripts as script
+use Rattle.jd_first_script.specs.Scripts.{PlainScript}
+use Rattle.jd_first_script.proofs.Files.{one_script}
+use Rattle.jd_first_oblig.specs.Obligations.{obligation_name, obligation_sequent}
+use Rattle.jdl.specs.Words.{replay_words}
+use Rattle.jdl.specs.Reports.{IsReport}
+use Rattle.jdl.specs.Answers.{proof_limit, file_limit, AreRead, IsAnswer, usage, long_proof, long_file, no_program, no_script, long_report, replayed}
+use Rattle.jdl.specs.declared.status.Status.{Status}
+use Rattle.jdl.specs.declared.status.Status.TheVariants.{Usage, RefusedSource, RefusedScript, Limit}
+use Rattle.jdl.proofs.Derivations.{OneWay}
+use Rattle.jdl.proofs.Lengths.{length-report, length-name}
+use Rattle.jdl.proofs.Outcomes.{report_done, report_not_accepted, report_status}
+
+-- ---- one report
+
+pub one_report : (leads : PlainSequent → PlainStep → List PlainSequent → Type 0) → OneWay leads → (name : List ℕ) (goal : PlainSequent) (s : PlainScript) (status other : Status) (text another : List ℕ) → IsReport leads name goal s status text → IsReport leads name goal s other another → status ≡ other
+one_report leads way name goal s status other text another report again =
+    elim (report_status leads name goal s status text report) [
+      | inl here ↦
+          elim (report_status leads name goal s other another again) [
+            | inl there ↦ here ∙ sym there
+            | inr there ↦ (let done = report_done leads name goal s status text report here in
+                absurd (report_not_accepted leads way name goal s other another again there done.0 done.1 done.2))
+          ]
+      | inr here ↦
+          elim (report_status leads name goal s other another again) [
+            | inl there ↦ (let done = report_done leads name goal s other another again there in
+                absurd (report_not_accepted leads way name goal s status text report here done.0 done.1 done.2))
+            | inr there ↦ here ∙ sym there
+          ]
+    ]
+
+-- ---- files that are read
+
+same_files : (words : List (List ℕ)) (proof file proof' file' : List ℕ) → replay_words words ≡ Some (proof, file) → replay_words words ≡ Some (proof', file') → (proof ≡ proof') × (file ≡ file')
+same_files words proof file proof' file' one other =
+    let both = sym one ∙ other in
+    let pair : ◌≡◌ {A = List ℕ × List ℕ} (proof, file) (proof', file') = cc in
+    (ap (λ x. x.0) pair, ap (λ x. x.1) pair)
+
+same_bytes : (contents : List ℕ → Option (List ℕ)) (name name' bytes bytes' : List ℕ) → name ≡ name' → contents name ≡ Some bytes → contents name' ≡ Some bytes' → bytes ≡ bytes'
+same_bytes contents name name' bytes bytes' same one other = cc
+
+-- what is said of the bytes of both files
+pub data IsJudgedAs (leads : Program → PlainSequent → PlainStep → List PlainSequent → Type 0) (proof_bytes file_bytes : List ℕ) : Status → Type 0 where
+  source : ((q : Program) → java.Reads file_bytes q → ⊥) → IsJudgedAs leads proof_bytes file_bytes RefusedSource
+  proof : (q : Program) → java.Reads file_bytes q → ((s : PlainScript) → script.Reads (obligation_name q) proof_bytes s → ⊥) → IsJudgedAs leads proof_bytes file_bytes RefusedScript
+  report : (q : Program) (s : PlainScript) (status : Status) (text : List ℕ) → java.Reads file_bytes q → script.Reads (obligation_name q) proof_bytes s → IsReport (leads q) (obligation_name q) (obligation_sequent q) s status text → IsJudgedAs leads proof_bytes file_bytes status
+
+one_judgement : (leads : Program → PlainSequent → PlainStep → List PlainSequent → Type 0) → ((q : Program) → OneWay (leads q)) → (proof_bytes file_bytes : List ℕ) (status other : Status) → IsJudgedAs leads proof_bytes file_bytes status → IsJudgedAs leads proof_bytes file_bytes other → status ≡ other
+one_judgement leads way pb fb status other (source none) (source none') = refl
+one_judgement leads way pb fb status other (source none) (proof q reads refuses) = absurd (none q reads)
+one_judgement leads way pb fb status other (source none) (report q s status' text reads script_reads is) = absurd (none q reads)
+one_judgement leads way pb fb status other (proof q reads refuses) (source none) = absurd (none q reads)
+one_judgement leads way pb fb status other (proof q reads refuses) (proof q' reads' refuses') = refl
+one_judgement leads way pb fb status other (proof q reads refuses) (report q' s status' text reads' script_reads is) =
+    absurd (refuses s (subst (λ p. script.Reads (obligation_name p) pb s) (one_meaning fb q' q reads' reads) script_reads))
+one_judgement leads way pb fb status other (report q s status' text reads script_reads is) (source none) = absurd (none q reads)
+one_judgement leads way pb fb status other (report q s status' text reads script_reads is) (proof q' reads' refuses) =
+    absurd (refuses s (subst (λ p. script.Reads (obligation_name p) pb s) (one_meaning fb q q' reads reads') script_reads))
+one_judgement leads way pb fb status other (report q s status' text reads script_reads is) (report q' s' other' another reads' script_reads' is') =
+    let programs = one_meaning fb q' q reads' reads in
+    let scripts = one_script (obligation_name q) pb s' s (subst (λ p. script.Reads (obligation_name p) pb s') programs script_reads') script_reads in
+    one_report (leads q) (way q) (obligation_name q) (obligation_sequent q) s status other text another is
+    (subst (λ t. IsReport (leads q) (obligation_name q) (obligation_sequent q) t other another) scripts (subst (λ p. IsReport (leads p) (obligation_name p) (obligation_sequent p) s' other another) programs is'))
+
+-- files that are read have one pair of contents
+pub judged_as : (leads : Program → PlainSequent → PlainStep → List PlainSequent → Type 0) (words : List (List ℕ)) (contents : List ℕ → Option (List ℕ)) (proof file proof_bytes file_bytes : List ℕ) (status : Status) (text : List ℕ) → AreRead words contents proof file proof_bytes file_bytes → IsAnswer leads words contents status text → IsJudgedAs leads proof_bytes file_bytes status
+judged_as leads words contents p f pb fb status text read (usage none) = absurd (let are = read.words_ in cc)
+judged_as leads words contents p f pb fb status text read (long_proof p' f' bytes are told past) =
+    let files = same_files words p f p' f' read.words_ are in
+    let same = same_bytes contents p p' pb bytes files.0 read.proof_told told in
+    absurd (omega (arith, ap length same, read.proof_within))
+judged_as leads words contents p f pb fb status text read (long_file p' f' pb' bytes are proof_told within told past) =
+    let files = same_files words p f p' f' read.words_ are in
+    let same = same_bytes contents f f' fb bytes files.1 read.file_told told in
+    absurd (omega (arith, ap length same, read.file_within))
+judged_as leads words contents p f pb fb status text read (no_program p' f' pb' fb' read' none) =
+    let files = same_files words p f p' f' read.words_ read'.words_ in
+    let bytes = same_bytes contents f f' fb fb' files.1 read.file_told read'.file_told in
+    source (λ q reads. none q (subst (λ b. java.Reads b q) bytes reads))
+judged_as leads words contents p f pb fb status text read (no_script p' f' pb' fb' q read' reads none) =
+    let files = same_files words p f p' f' read.words_ read'.words_ in
+    let bytes = same_bytes contents f f' fb fb' files.1 read.file_told read'.file_told in
+    let proofs = same_bytes contents p p' pb pb' files.0 read.proof_told read'.proof_told in
+    proof q (subst (λ b. java.Reads b q) (sym bytes) reads) (λ s script_reads. none s (subst (λ b. script.Reads (obligation_name q) b s) proofs script_reads))
+judged_as leads words contents p f pb fb status text read (long_report p' f' pb' fb' q s status' text' read' reads script_reads is past) =
+    let few = length-report (leads q) (obligation_name q) (obligation_sequent q) s status' text' is in
+    let short = length-name fb' q reads in
+    absurd (omega (arith, few, short, read'.file_within))
+judged_as leads words contents p f pb fb status text read (replayed p' f' pb' fb' q s status' text' read' reads script_reads is within) =
+    let files = same_files words p f p' f' read.words_ read'.words_ in
+    let bytes = same_bytes contents f f' fb fb' files.1 read.file_told read'.file_told in
+    let proofs = same_bytes contents p p' pb pb' files.0 read.proof_told read'.proof_told in
+    report q s status text (subst (λ b. java.Reads b q) (sym bytes) reads) (subst (λ b. script.Reads (obligation_name q) b s) (sym proofs) script_reads) is
+
+-- ---- words that are no command, and files that are too long
+
+no_command : (leads : Program → PlainSequent → PlainStep → List PlainSequent → Type 0) (words : List (List ℕ)) (contents : List ℕ → Option (List ℕ)) (status : Status) (text : List ℕ) → replay_words words ≡ None → IsAnswer leads words contents status text → status ≡ Usage
+no_command leads words contents status text others (usage none) = refl
+no_command leads words contents status text others (long_proof p f bytes are told past) = absurd cc
+no_command leads words contents status text others (long_file p f pb bytes are proof_told within told past) = absurd cc
+no_command leads words contents status text others (no_program p f pb fb read none) = absurd (let are = read.words_ in cc)
+no_command leads words contents status text others (no_script p f pb fb q read reads none) = absurd (let are = read.words_ in cc)
+no_command leads words contents status text others (long_report p f pb fb q s status' text' read reads script_reads is past) = absurd (let are = read.words_ in cc)
+no_command leads words contents status text others (replayed p f pb fb q s status' text' read reads script_reads is within) = absurd (let are = read.words_ in cc)
+
+not_read : (words : List (List ℕ)) (contents : List ℕ → Option (List ℕ)) (p f bytes p' f' pb' fb' : List ℕ) → replay_words words ≡ Some (p, f) → contents p ≡ Some bytes → proof_limit < length bytes → AreRead words contents p' f' pb' fb' → ⊥
+not_read words contents p f bytes p' f' pb' fb' are told past read =
+    let files = same_files words p f p' f' are read.words_ in
+    let same = same_bytes contents p p' bytes pb' files.0 told read.proof_told in
+    omega (arith, ap length same, read.proof_within)
+
+proof_is_past : (leads : Program → PlainSequent → PlainStep → List PlainSequent → Type 0) (words : List (List ℕ)) (contents : List ℕ → Option (List ℕ)) (p f bytes : List ℕ) (status : Status) (text : List ℕ) → replay_words words ≡ Some (p, f) → contents p ≡ Some bytes → proof_limit < length bytes → IsAnswer leads words contents status text → status ≡ Limit
+proof_is_past leads words contents p f bytes status text are told past (usage none) = absurd cc
+proof_is_past leads words contents p f bytes status text are told past (long_proof p' f' bytes' are' told' past') = refl
+proof_is_past leads words contents p f bytes status text are told past (long_file p' f' pb' bytes' are' proof_told' within told' past') = refl
+proof_is_past leads words contents p f bytes status text are told past (no_program p' f' pb' fb' read none) =
+    absurd (not_read words contents p f bytes p' f' pb' fb' are told past read)
+proof_is_past leads words contents p f bytes status text are told past (no_script p' f' pb' fb' q read reads none) =
+    absurd (not_read words contents p f bytes p' f' pb' fb' are told past read)
+proof_is_past leads words contents p f bytes status text are told past (long_report p' f' pb' fb' q s status' text' read reads script_reads is long) = refl
+proof_is_past leads words contents p f bytes status text are told past (replayed p' f' pb' fb' q s status' text' read reads script_reads is within) =
+    absurd (not_read words contents p f bytes p' f' pb' fb' are told past read)
+
+file_not_read : (words : List (List ℕ)) (contents : List ℕ → Option (List ℕ)) (p f bytes p' f' pb' fb' : List ℕ) → replay_words words ≡ Some (p, f) → contents f ≡ Some bytes → file_limit < length bytes → AreRead words contents p' f' pb' fb' → ⊥
+file_not_read words contents p f bytes p' f' pb' fb' are told past read =
+    let files = same_files words p f p' f' are read.words_ in
+    let same = same_bytes contents f f' bytes fb' files.1 told read.file_told in
+    omega (arith, ap length same, read.file_within)
+
+file_is_past : (leads : Program → PlainSequent → PlainStep → List PlainSequent → Type 0) (words : List (List ℕ)) (contents : List ℕ → Option (List ℕ)) (p f bytes : List ℕ) (status : Status) (text : List ℕ) → replay_words words ≡ Some (p, f) → contents f ≡ Some bytes → file_limit < length bytes → IsAnswer leads words contents status text → status ≡ Limit
+file_is_past leads words contents p f bytes status text are told past (usage none) = absurd cc
+file_is_past leads words contents p f bytes status text are told past (long_proof p' f' bytes' are' told' past') = refl
+file_is_past leads words contents p f bytes status text are told past (long_file p' f' pb' bytes' are' proof_told' within told' past') = refl
+file_is_past leads words contents p f bytes status text are told past (no_program p' f' pb' fb' read none) =
+    absurd (file_not_read words contents p f bytes p' f' pb' fb' are told past read)
+file_is_past leads words contents p f bytes status text are told past (no_script p' f' pb' fb' q read reads none) =
+    absurd (file_not_read words contents p f bytes p' f' pb' fb' are told past read)
+file_is_past leads words contents p f bytes status text are told past (long_report p' f' pb' fb' q s status' text' read reads script_reads is long) = refl
+file_is_past leads words contents p f bytes status text are told past (replayed p' f' pb' fb' q s status' text' read reads script_reads is within) =
+    absurd (file_not_read words contents p f bytes p' f' pb' fb' are told past read)
+
+-- ---- one answer
+
+one_answer_read : (leads : Program → PlainSequent → PlainStep → List PlainSequent → Type 0) → ((q : Program) → OneWay (leads q)) → (words : List (List ℕ)) (contents : List ℕ → Option (List ℕ)) (p f pb fb : List ℕ) (status other : Status) (text another : List ℕ) → AreRead words contents p f pb fb → IsAnswer leads words contents status text → IsAnswer leads words contents other another → status ≡ other
+one_answer_read leads way words contents p f pb fb status other text another read answer again =
+    one_judgement leads way pb fb status other (judged_as leads words contents p f pb fb status text read answer) (judged_as leads words contents p f pb fb other another read again)
+
+pub answer_unique : (leads : Program → PlainSequent → PlainStep → List PlainSequent → Type 0) → ((q : Program) → OneWay (leads q)) → (words : List (List ℕ)) (contents : List ℕ → Option (List ℕ)) (status other : Status) (text another : List ℕ) → IsAnswer leads words contents status text → IsAnswer leads words contents other another → status ≡ other
+answer_unique leads way words contents status other text another (usage none) again =
+    sym (no_command leads words contents other another none again)
+answer_unique leads way words contents status other text another (long_proof p f bytes are told past) again =
+    sym (proof_is_past leads words contents p f bytes other another are told past again)
+answer_unique leads way words contents status other text another (long_file p f pb bytes are proof_told within told past) again =
+    sym (file_is_past leads words contents p f bytes other another are told past again)
+answer_unique leads way words contents status other text another (no_program p f pb fb read none) again =
+    one_answer_read leads way words contents p f pb fb RefusedSource other _ another read (no_program p f pb fb read none) again
+answer_unique leads way words contents status other text another (no_script p f pb fb q read reads none) again =
+    one_answer_read leads way words contents p f pb fb RefusedScript other _ another read (no_script p f pb fb q read reads none) again
+answer_unique leads way words contents status other text another (long_report p f pb fb q s status' text' read reads script_reads is past) again =
+    one_answer_read leads way words contents p f pb fb Limit other _ another read (long_report p f pb fb q s status' text' read reads script_reads is past) again
+answer_unique leads way words contents status other text another (replayed p f pb fb q s status' text' read reads script_reads is within) again =
+    one_answer_read leads way words contents p f pb fb status' other text' another read (replayed p f pb fb q s status' text' read reads script_reads is within) again

@@ -1,0 +1,63 @@
+-- What the program answers, from the words and the contents of the files.
+use Rattle.std.specs.Prelude.{◌≡◌, ℕ, ◌<◌, ◌≤◌, List, length, Option, Some, None}
+use Rattle.jd_model.specs.Sequents.{PlainSequent}
+use Rattle.jd_sequent.specs.Trees.{PlainStep}
+use Rattle.jd_sequent.specs.Obligations.{PlainTask}
+use Rattle.jd_sequent.specs.Rules.{LeadsWithinLimits}
+use Rattle.jd_first_rules.specs.Instances.{IsInstance}
+use Rattle.jd_first_java.specs.Programs.{Program}
+use Rattle.jd_first_java.specs.Reads as java
+use Rattle.jd_first_script.specs.Scripts as script
+use Rattle.jd_first_script.specs.Scripts.{PlainScript}
+use Rattle.jd_first_oblig.specs.Obligations.{obligation_name, obligation_sequent, obligation_of}
+use Rattle.jdl.specs.Words.{replay_words}
+use Rattle.jdl.specs.Reports.{usage_text, refused_text, proof_limit_text, file_limit_text, report_limit_text, IsReport}
+use Rattle.jdl.specs.declared.status.Status.{Status}
+use Rattle.jdl.specs.declared.status.Status.TheVariants.{Usage, RefusedSource, RefusedScript, Limit}
+
+-- limits in bytes: of a proof file, of a Java file, of a report
+abbrev pub proof_limit : ℕ
+proof_limit = 16777216
+
+abbrev pub file_limit : ℕ
+file_limit = 1048576
+
+abbrev pub report_limit : ℕ
+report_limit = 67108864
+
+-- the rules take the sequent of each program's obligation
+abbrev pub AcceptsObligations : (PlainTask → PlainSequent → Type 0) → Type 0
+AcceptsObligations accepts =
+    (q : Program) → accepts (record { obligation = obligation_of q }) (obligation_sequent q)
+
+-- a step of a program's obligation leads to premises where it is an instance of a rule and they are within the limits
+abbrev pub leads_of : (PlainTask → PlainSequent → PlainStep → List PlainSequent → Type 0) → Program → PlainSequent → PlainStep → List PlainSequent → Type 0
+leads_of instance q = LeadsWithinLimits (instance (record { obligation = obligation_of q }))
+
+-- the same for the twelve rules of the first replay
+abbrev pub first_leads : Program → PlainSequent → PlainStep → List PlainSequent → Type 0
+first_leads = leads_of (λ t s p ps. IsInstance s p ps)
+
+-- the words name these two files, whose bytes are these, within the limits
+pub record AreRead (words : List (List ℕ)) (contents : List ℕ → Option (List ℕ)) (proof file proof_bytes file_bytes : List ℕ) : Type 0 where
+  pub words_ : replay_words words ≡ Some (proof, file)
+  pub proof_told : contents proof ≡ Some proof_bytes
+  pub proof_within : length proof_bytes ≤ proof_limit
+  pub file_told : contents file ≡ Some file_bytes
+  pub file_within : length file_bytes ≤ file_limit
+
+-- the status and the text that are answered; a step of a program's obligation leads from a sequent to its premises
+pub data IsAnswer (leads : Program → PlainSequent → PlainStep → List PlainSequent → Type 0) (words : List (List ℕ)) (contents : List ℕ → Option (List ℕ)) : Status → List ℕ → Type 0 where
+  usage : replay_words words ≡ None → IsAnswer leads words contents Usage usage_text
+  long_proof : (proof file bytes : List ℕ) → replay_words words ≡ Some (proof, file) → contents proof ≡ Some bytes → proof_limit < length bytes → IsAnswer leads words contents Limit proof_limit_text
+  long_file : (proof file proof_bytes bytes : List ℕ) → replay_words words ≡ Some (proof, file) → contents proof ≡ Some proof_bytes → length proof_bytes ≤ proof_limit → contents file ≡ Some bytes → file_limit < length bytes → IsAnswer leads words contents Limit file_limit_text
+  no_program : (proof file proof_bytes file_bytes : List ℕ) → AreRead words contents proof file proof_bytes file_bytes → ((q : Program) → java.Reads file_bytes q → ⊥) → IsAnswer leads words contents RefusedSource (refused_text file)
+  no_script : (proof file proof_bytes file_bytes : List ℕ) (q : Program) → AreRead words contents proof file proof_bytes file_bytes → java.Reads file_bytes q → ((s : PlainScript) → script.Reads (obligation_name q) proof_bytes s → ⊥) → IsAnswer leads words contents RefusedScript (refused_text proof)
+  long_report : (proof file proof_bytes file_bytes : List ℕ) (q : Program) (s : PlainScript) (status : Status) (text : List ℕ) → AreRead words contents proof file proof_bytes file_bytes → java.Reads file_bytes q → script.Reads (obligation_name q) proof_bytes s → IsReport (leads q) (obligation_name q) (obligation_sequent q) s status text → report_limit < length text → IsAnswer leads words contents Limit report_limit_text
+  replayed : (proof file proof_bytes file_bytes : List ℕ) (q : Program) (s : PlainScript) (status : Status) (text : List ℕ) → AreRead words contents proof file proof_bytes file_bytes → java.Reads file_bytes q → script.Reads (obligation_name q) proof_bytes s → IsReport (leads q) (obligation_name q) (obligation_sequent q) s status text → length text ≤ report_limit → IsAnswer leads words contents status text
+
+-- the library tells what is in the files that the words name, as far as they are read
+abbrev pub IsTold : List (List ℕ) → (List ℕ → Option (List ℕ)) → Type 0
+IsTold words contents =
+    (proof file : List ℕ) → replay_words words ≡ Some (proof, file)
+    → (bytes : List ℕ) × (contents proof ≡ Some bytes) × (length bytes ≤ proof_limit → (more : List ℕ) × (contents file ≡ Some more))

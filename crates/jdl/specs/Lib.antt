@@ -1,0 +1,5 @@
+pub mod Answers
+pub mod Outcomes
+pub mod Reports
+pub mod Statuses
+pub mod Words

@@ -1,0 +1,94 @@
+-- What the program prints, and when.
+use Rattle.std.specs.Prelude.{◌≡◌, ℕ, ◌<◌, List, [], ◌∷◌, ◌++◌, length, codes}
+use Rattle.std.specs.Fmt.{decimal}
+use Rattle.jd_model.specs.Sequents.{PlainSequent}
+use Rattle.jd_sequent.specs.Trees.{PlainStep, ProofTree, steps_in}
+use Rattle.jd_sequent.specs.Derives.{Derives}
+use Rattle.jd_sequent.specs.declared.bad.Bad.{Bad}
+use Rattle.jd_sequent.specs.declared.bad.Bad.TheVariants.{UnknownRule, NoFormula, NoPlace, WrongPlaceKind, NoMatch, MissingInst, BadInst, NoAssume, NotFresh, SideCondition, NoContract, NoDecreases, TooLarge, NoMemory as OutOfMemory}
+use Rattle.jd_replay.specs.declared.verdict.Verdict.{Verdict}
+use Rattle.jd_replay.specs.declared.verdict.Verdict.TheVariants.{Closed, Open, Bad as Broken}
+use Rattle.jd_replay.specs.declared.verdict.Cause.{Cause}
+use Rattle.jd_replay.specs.declared.verdict.Cause.TheVariants.{Rule, BranchCount}
+use Rattle.jd_first_script.specs.Scripts.{PlainScript, NoProof, OneProof}
+use Rattle.jdl.specs.declared.status.Status.{Status}
+use Rattle.jdl.specs.declared.status.Status.TheVariants.{Done, NotAccepted}
+
+abbrev pub line : List ℕ → List ℕ
+line text = text ++ (10 ∷ [])
+
+-- ---- the lines of refusals
+
+abbrev pub usage_text : List ℕ
+usage_text = line (codes "usage: jdl COMMAND ARGUMENT..")
+
+abbrev pub refused_text : List ℕ → List ℕ
+refused_text file = line (codes "refused " ++ (file ++ codes " Unbuilt at 0"))
+
+abbrev pub proof_limit_text : List ℕ
+proof_limit_text = line (codes "limit proof-bytes 16777216")
+
+abbrev pub file_limit_text : List ℕ
+file_limit_text = line (codes "limit file-bytes 1048576")
+
+abbrev pub report_limit_text : List ℕ
+report_limit_text = line (codes "limit report 67108864")
+
+-- ---- the lines of verdicts
+
+abbrev pub accepted_text : List ℕ
+accepted_text = line (codes "accepted 1 of 1")
+
+abbrev pub not_accepted_text : List ℕ
+not_accepted_text = line (codes "accepted 0 of 1")
+
+abbrev pub closed_text : List ℕ → ℕ → List ℕ
+closed_text name steps = line (name ++ (codes " closed " ++ decimal steps)) ++ accepted_text
+
+abbrev pub open_text : List ℕ → ℕ → List ℕ
+open_text name goals = line (name ++ (codes " open " ++ decimal goals)) ++ not_accepted_text
+
+abbrev pub missing_text : List ℕ → List ℕ
+missing_text name = line (name ++ codes " missing") ++ not_accepted_text
+
+-- the number and the name of a cause
+abbrev pub bad_kind : Bad → List ℕ
+bad_kind UnknownRule = codes "1 UnknownRule"
+bad_kind NoFormula = codes "2 NoFormula"
+bad_kind NoPlace = codes "3 NoPlace"
+bad_kind WrongPlaceKind = codes "4 WrongPlaceKind"
+bad_kind NoMatch = codes "5 NoMatch"
+bad_kind MissingInst = codes "6 MissingInst"
+bad_kind BadInst = codes "7 BadInst"
+bad_kind NoAssume = codes "8 NoAssume"
+bad_kind NotFresh = codes "9 NotFresh"
+bad_kind SideCondition = codes "10 SideCondition"
+bad_kind NoContract = codes "11 NoContract"
+bad_kind NoDecreases = codes "12 NoDecreases"
+bad_kind TooLarge = codes "13 TooLarge"
+bad_kind OutOfMemory = codes "14 NoMemory"
+
+abbrev pub cause_text : Cause → List ℕ
+cause_text (Rule bad) = bad_kind bad
+cause_text (BranchCount script rule) = codes "15 BranchCount " ++ (decimal script ++ (codes " " ++ decimal rule))
+
+abbrev pub bad_text : List ℕ → ℕ → Cause → List ℕ
+bad_text name node cause = line (name ++ (codes " bad " ++ (decimal node ++ (codes " " ++ cause_text cause)))) ++ not_accepted_text
+
+-- the status and the report of a verdict
+abbrev pub verdict_status : Verdict → Status
+verdict_status (Closed steps) = Done
+verdict_status (Open goals) = NotAccepted
+verdict_status (Broken node cause) = NotAccepted
+
+abbrev pub verdict_text : List ℕ → Verdict → List ℕ
+verdict_text name (Closed steps) = closed_text name steps
+verdict_text name (Open goals) = open_text name (length goals.items)
+verdict_text name (Broken node cause) = bad_text name node cause
+
+-- the report of a script for an obligation of this name and sequent, where a step leads from a sequent to its premises
+pub data IsReport (leads : PlainSequent → PlainStep → List PlainSequent → Type 0) (name : List ℕ) (goal : PlainSequent) (script : PlainScript) : Status → List ℕ → Type 0 where
+  missing : script ≡ NoProof → IsReport leads name goal script NotAccepted (missing_text name)
+  closed : (tree : ProofTree) → script ≡ OneProof tree → Derives leads tree goal [] → IsReport leads name goal script Done (closed_text name (steps_in tree))
+  opened : (tree : ProofTree) (goals : List PlainSequent) → script ≡ OneProof tree → Derives leads tree goal goals → 0 < length goals → IsReport leads name goal script NotAccepted (open_text name (length goals))
+  broken : (tree : ProofTree) (node : ℕ) (cause : Cause) → script ≡ OneProof tree → ((goals : List PlainSequent) → Derives leads tree goal goals → ⊥) → IsReport leads name goal script NotAccepted (bad_text name node cause)

@@ -1,0 +1,240 @@
+ghost use Rattle.std.specs.Prelude.{◌≡◌, ◌<◌, ◌≤◌, ℕ, List, Option, length, Some, None, IfOk, OnOk, IsErrOf, MatchOption, map};
+ghost use Rattle.std.specs.Option.{ForSome};
+ghost use Rattle.jd_base.specs.Faults.{Rose, SameCounts, SameContents};
+ghost use Rattle.jd_sequent.specs.Trees.{tree_of};
+ghost use Rattle.jd_sequent.specs.Steps.{node_view};
+ghost use Rattle.jd_replay.specs.Verdicts.{IsVerdict};
+ghost use Rattle.jd_first_java.specs.Programs.{IsProgram};
+ghost use Rattle.jd_first_java.specs.Reads.{program_view};
+ghost use Rattle.jd_first_script.specs.Scripts.{script_view};
+ghost use Rattle.jd_first_oblig.specs.Obligations.{obligation_name, obligation_sequent};
+ghost use Rattle.jdl.specs.Words.{word_texts, replay_words};
+ghost use Rattle.jdl.specs.Reports.{IsReport, report_limit_text};
+ghost use Rattle.jdl.specs.Answers.{AcceptsObligations, leads_of, report_limit, AreRead, IsAnswer, IsTold};
+ghost use Rattle.jdl.specs.Statuses.{IsJudged, IsWritten};
+ghost use Rattle.jdl.specs.Outcomes.{IsReadFault, HasMoreFaults};
+ghost use Rattle.jdl.specs.declared.status.Status.{Status};
+ghost use Rattle.jdl.specs.declared.answer.Stop.TheVariants.{NoMemory as OutOfMemory};
+
+use crate::report::{missing, status_of, text_of};
+use crate::status::Status;
+use crate::text::{file_too_long, proof_too_long, refused, report_too_long, usage};
+use crate::words::{ReplayFiles, replay_files};
+use jd_base::{Library, NoMemory, ReadRefusal, read_whole};
+use jd_first_java::{Program, read_program};
+use jd_first_oblig::{name_of, obligation};
+use jd_first_script::{Script, read_script};
+use jd_replay::{Verdict, replay};
+use jd_sequent::{RuleSet, ScriptTree, Task};
+use std::alloc::Global;
+
+/// The greatest length of a proof file in bytes.
+const PROOF_LIMIT: u64 = 16777216;
+
+/// The greatest length of a Java file in bytes.
+const FILE_LIMIT: u64 = 1048576;
+
+/// The greatest length of a report in bytes.
+const REPORT_LIMIT: usize = 67108864;
+
+/// Why there is no answer.
+#[derive(Clone, Copy, PartialEq, Eq, Debug)]
+pub enum Stop {
+    /// A file could not be read.
+    ReadFault,
+    /// Memory ran out.
+    NoMemory,
+}
+
+impl From<NoMemory> for Stop {
+    ghost from_gives = { λ _ e. e ≡ OutOfMemory };
+
+    fn from(_error: NoMemory) -> Stop {
+        Stop::NoMemory
+    }
+}
+
+/// What is answered: a status, and the text that is written.
+#[derive(Drop)]
+pub struct Answer {
+    /// How the call ends if the text is written.
+    pub status: Status,
+    /// The text.
+    pub text: Vec<u8>,
+}
+
+// What a script's tree does to the sequent of the program's obligation.
+fn verdict_of<R: RuleSet>(
+    alloc: Global,
+    rules: &R,
+    program: &Program,
+    tree: &ScriptTree,
+) -> Result<Verdict, NoMemory>
+    requires accepts { AcceptsObligations (R.accepts rules.now) }
+    requires program { IsProgram (program_view program.now) }
+    ensures { IfOk result
+        (λ verdict. IsVerdict (leads_of (R.instance rules.now) (program_view program.now)) (tree_of (map node_view tree.now.nodes.items)) (obligation_sequent (program_view program.now)) verdict) }
+{
+    let obligation = obligation(alloc, program)?;
+    let task = Task {
+        obligation: &obligation,
+    };
+    replay(alloc, rules, &task, &obligation.sequent, tree)
+}
+
+// The report of a script for the obligation of a program.
+fn replayed<R: RuleSet>(
+    alloc: Global,
+    rules: &R,
+    program: &Program,
+    script: &Script,
+) -> Result<Answer, NoMemory>
+    requires accepts { AcceptsObligations (R.accepts rules.now) }
+    requires program { IsProgram (program_view program.now) }
+    ensures report { IfOk result
+        (λ a. IsReport (leads_of (R.instance rules.now) (program_view program.now)) (obligation_name (program_view program.now)) (obligation_sequent (program_view program.now)) (script_view script.now) a.status a.text.items) }
+    ensures status { IfOk result (λ a. IsJudged a.status) }
+{
+    let name = name_of(alloc, program)?;
+    match script {
+        Script::NoProof => Ok(Answer {
+            status: Status::NotAccepted,
+            text: missing(alloc, &name)?,
+        }),
+        Script::Proof(tree) => {
+            let verdict = verdict_of(alloc, rules, program, tree)?;
+            Ok(Answer {
+                status: status_of(&verdict),
+                text: text_of(alloc, &name, &verdict)?,
+            })
+        }
+    }
+}
+
+// The answer, or that its report is too long.
+fn within_limit(alloc: Global, answer: Answer) -> Result<Answer, NoMemory>
+    ensures long { IfOk result (λ a. report_limit < length answer.text.items
+        → (a.status ≡ Status.Limit) × (a.text.items ≡ report_limit_text)) }
+    ensures short { IfOk result (λ a. length answer.text.items ≤ report_limit
+        → (a.status ≡ answer.status) × (a.text.items ≡ answer.text.items)) }
+    ensures status { IfOk result (λ a. IsJudged answer.status → IsJudged a.status) }
+{
+    if answer.text.len() > REPORT_LIMIT {
+        return Ok(Answer {
+            status: Status::Limit,
+            text: report_too_long(alloc)?,
+        });
+    }
+    Ok(answer)
+}
+
+// The answer for the bytes of both files.
+fn judged<R: RuleSet>(
+    alloc: Global,
+    rules: &R,
+    files: &ReplayFiles<'_>,
+    proof: &[u8],
+    file: &[u8],
+) -> Result<Answer, NoMemory>
+    requires accepts { AcceptsObligations (R.accepts rules.now) }
+    ensures answer { IfOk result (λ a. (words : List (List ℕ)) (contents : List ℕ → Option (List ℕ))
+        → AreRead words contents files.now.proof.now files.now.file.now proof.now file.now
+        → IsAnswer (leads_of (R.instance rules.now)) words contents a.status a.text.items) }
+    ensures status { IfOk result (λ a. IsJudged a.status) }
+{
+    let Some(program) = read_program(alloc, file)? else {
+        return Ok(Answer {
+            status: Status::RefusedSource,
+            text: refused(alloc, files.file.as_bytes())?,
+        });
+    };
+    let name = name_of(alloc, &program)?;
+    let Some(script) = read_script(alloc, proof, &name)? else {
+        return Ok(Answer {
+            status: Status::RefusedScript,
+            text: refused(alloc, files.proof.as_bytes())?,
+        });
+    };
+    let report = replayed(alloc, rules, &program, &script)?;
+    let answer = within_limit(alloc, report)?;
+    Ok(answer)
+}
+
+// The bytes of a file; none where it is longer than the limit.
+fn read_within<L: Library>(
+    alloc: Global,
+    library: &mut L,
+    name: &str,
+    limit: u64,
+) -> Result<Option<Vec<u8>>, Stop>
+    ensures read { IfOk result (λ r. ForSome (L.contents library.old name.now)
+        (λ told. MatchOption r (limit < length told) (λ v. (v.items ≡ told) × (length told ≤ limit)))) }
+    ensures kept { SameContents (L.contents library.old) (L.contents library.new) }
+
+    ensures fault { IsErrOf result Stop.ReadFault
+        → Rose (L.faults library.old name.now) (L.faults library.new name.now) }
+    ensures no_fault { OnOk result (SameCounts (L.faults library.old) (L.faults library.new)) }
+    ensures no_memory_no_fault { IsErrOf result Stop.NoMemory
+        → SameCounts (L.faults library.old) (L.faults library.new) }
+{
+    match read_whole(alloc, library, name, limit) {
+        Ok(bytes) => Ok(Some(bytes)),
+        Err(ReadRefusal::TooLarge) => Ok(None),
+        Err(ReadRefusal::Fault) => Err(Stop::ReadFault),
+        Err(ReadRefusal::NoMemory) => Err(Stop::NoMemory),
+    }
+}
+
+/// The answer for the words of a call.
+///
+/// # Errors
+///
+/// `ReadFault` where a file that the words name could not be read; `NoMemory`.
+pub fn answer_to<R: RuleSet, L: Library>(
+    alloc: Global,
+    rules: &R,
+    words: &[String],
+    library: &mut L,
+) -> Result<Answer, Stop>
+    requires accepts { AcceptsObligations (R.accepts rules.now) }
+    ensures answer { IfOk result (λ a. IsTold (word_texts words.now) (L.contents library.old)
+        → IsAnswer (leads_of (R.instance rules.now)) (word_texts words.now) (L.contents library.old) a.status a.text.items) }
+
+    // Words that are no command are answered so, and no others.
+    ensures usage { IfOk result (λ a. a.status ≡ Status.Usage → replay_words (word_texts words.now) ≡ None) }
+    ensures always_usage { IfOk result (λ a. replay_words (word_texts words.now) ≡ None → a.status ≡ Status.Usage) }
+    ensures written { IfOk result (λ a. IsWritten a.status) }
+
+    ensures read_fault { IsErrOf result Stop.ReadFault
+        → IsReadFault (word_texts words.now) (L.faults library.old) (L.faults library.new) }
+    ensures always_read_fault { HasMoreFaults (word_texts words.now) (L.faults library.old) (L.faults library.new)
+        → IsErrOf result Stop.ReadFault }
+{
+    let Some(files) = replay_files(words) else {
+        return Ok(Answer {
+            status: Status::Usage,
+            text: usage(alloc)?,
+        });
+    };
+    let Some(proof) = read_within(alloc, library, files.proof, PROOF_LIMIT)? else {
+        return Ok(Answer {
+            status: Status::Limit,
+            text: proof_too_long(alloc)?,
+        });
+    };
+    let Some(file) = read_within(alloc, library, files.file, FILE_LIMIT)? else {
+        return Ok(Answer {
+            status: Status::Limit,
+            text: file_too_long(alloc)?,
+        });
+    };
+    Ok(judged(alloc, rules, &files, &proof, &file)?)
+}
+
+/// Words and contents have answers of one status.
+pub fn one_answer<R: RuleSet>(_rules: &R)
+    ensures { (words : List (List ℕ)) (contents : List ℕ → Option (List ℕ)) (status other : Status) (text another : List ℕ)
+        → IsAnswer (leads_of (R.instance _rules.now)) words contents status text
+        → IsAnswer (leads_of (R.instance _rules.now)) words contents other another
+        → status ≡ other }
+{}

@@ -1,0 +1,217 @@
+use crate::report::{missing, text_of};
+use crate::run::run;
+use crate::status::Status;
+use crate::text::{add_decimal, file_too_long, proof_too_long, refused, report_too_long, usage};
+use crate::words::replay_files;
+use jd_base::{MemoryLibrary, MemorySink};
+use jd_replay::{Cause, Verdict};
+use jd_sequent::Bad;
+use std::alloc::{AllocError, Global};
+use std::test::Fail;
+
+fn words_of(alloc: Global, words: &[&str]) -> Result<Vec<String>, AllocError> {
+    let mut all = Vec::new(alloc);
+    for word in words {
+        all.push(String::from_str(alloc, word)?)?;
+    }
+    Ok(all)
+}
+
+#[test]
+fn words(rt: HostRuntime) -> Result<(), Fail> {
+    let alloc = rt.alloc();
+    let named = words_of(alloc, &["replay", "a.proof", "A.java"])?;
+    let Some(files) = replay_files(&named) else {
+        return Err(Fail::from("no files"));
+    };
+    assert_eq!(rt; files.proof, "a.proof");
+    assert_eq!(rt; files.file, "A.java");
+    let dash = words_of(alloc, &["replay", "a-b", "A-.java"])?;
+    assert!(rt; replay_files(&dash).is_some());
+    for refused in [
+        ["replay", "-", "A.java"],
+        ["replay", "a.proof", "--help"],
+        ["replay", "", "A.java"],
+        ["replay", "a.proof", ""],
+        ["Replay", "a.proof", "A.java"],
+        ["check", "a.proof", "A.java"],
+    ] {
+        let words = words_of(alloc, &refused)?;
+        assert!(rt; replay_files(&words).is_none());
+    }
+    for few in [&[] as &[&str], &["replay"], &["replay", "a.proof"]] {
+        assert!(rt; replay_files(&words_of(alloc, few)?).is_none());
+    }
+    let many = words_of(alloc, &["replay", "a.proof", "A.java", "B.java"])?;
+    assert!(rt; replay_files(&many).is_none());
+    Ok(())
+}
+
+#[test]
+fn exit_statuses(rt: HostRuntime) {
+    assert_eq!(rt; Status::Done.code(), 0);
+    assert_eq!(rt; Status::NotAccepted.code(), 1);
+    assert_eq!(rt; Status::RefusedScript.code(), 6);
+    assert_eq!(rt; Status::NoMemory.code(), 8);
+}
+
+#[test]
+fn decimals(rt: HostRuntime) -> Result<(), Fail> {
+    let alloc = rt.alloc();
+    let mut out = b"n ".to_vec(alloc)?;
+    add_decimal(alloc, &mut out, 0)?;
+    add_decimal(alloc, &mut out, 18446744073709551615)?;
+    assert_eq!(rt; out.as_slice(), b"n 018446744073709551615".as_slice());
+    Ok(())
+}
+
+#[test]
+fn lines(rt: HostRuntime) -> Result<(), Fail> {
+    let alloc = rt.alloc();
+    assert_eq!(rt;
+        usage(alloc)?.as_slice(),
+        b"usage: jdl COMMAND ARGUMENT..\n".as_slice()
+    );
+    assert_eq!(rt;
+        refused(alloc, b"A.java")?.as_slice(),
+        b"refused A.java Unbuilt at 0\n".as_slice()
+    );
+    assert_eq!(rt;
+        proof_too_long(alloc)?.as_slice(),
+        b"limit proof-bytes 16777216\n".as_slice()
+    );
+    assert_eq!(rt;
+        file_too_long(alloc)?.as_slice(),
+        b"limit file-bytes 1048576\n".as_slice()
+    );
+    assert_eq!(rt;
+        report_too_long(alloc)?.as_slice(),
+        b"limit report 67108864\n".as_slice()
+    );
+    Ok(())
+}
+
+#[test]
+fn reports(rt: HostRuntime) -> Result<(), Fail> {
+    let alloc = rt.alloc();
+    let none = missing(alloc, b"C::m#1")?;
+    assert_eq!(rt;
+        none.as_slice(),
+        b"C::m#1 missing\naccepted 0 of 1\n".as_slice()
+    );
+    for (verdict, want) in [
+        (
+            Verdict::Closed { steps: 12 },
+            b"C::m#1 closed 12\naccepted 1 of 1\n".as_slice(),
+        ),
+        (
+            Verdict::Bad {
+                node: 3,
+                cause: Cause::Rule(Bad::NoMatch),
+            },
+            b"C::m#1 bad 3 5 NoMatch\naccepted 0 of 1\n".as_slice(),
+        ),
+        (
+            Verdict::Bad {
+                node: 1,
+                cause: Cause::BranchCount { script: 2, rule: 1 },
+            },
+            b"C::m#1 bad 1 15 BranchCount 2 1\naccepted 0 of 1\n".as_slice(),
+        ),
+    ] {
+        assert_eq!(rt; text_of(alloc, b"C::m#1", &verdict)?.as_slice(), want);
+    }
+    Ok(())
+}
+
+const IDENTITY: &[u8] =
+    b"class T { /*@ ensures \\result == x; @*/ static int id(int x) { return x; } }";
+
+const NO_PROOF: &[u8] = b"(jdl 1)";
+
+// Runs `replay p.jdl T.java` on the texts of the two files; the calls of the library and of the
+// sink with these numbers fail.
+fn replayed(
+    alloc: Global,
+    proof: &[u8],
+    java: &[u8],
+    library_fails: &[u64],
+    sink_fails: &[u64],
+) -> Result<(Status, Vec<u8>), Fail> {
+    let mut files = Vec::new(alloc);
+    files.push((String::from_str(alloc, "p.jdl")?, proof.to_vec(alloc)?))?;
+    files.push((String::from_str(alloc, "T.java")?, java.to_vec(alloc)?))?;
+    let words = words_of(alloc, &["replay", "p.jdl", "T.java"])?;
+    let mut library = MemoryLibrary::new(files, library_fails.to_vec(alloc)?);
+    let Ok(mut sink) = MemorySink::new(alloc, 4096, sink_fails.to_vec(alloc)?) else {
+        return Err(Fail::from("no memory"));
+    };
+    let status = run(alloc, &words, &mut library, &mut sink);
+    Ok((status, sink.bytes().to_vec(alloc)?))
+}
+
+#[test]
+fn replays(rt: HostRuntime) -> Result<(), Fail> {
+    let alloc = rt.alloc();
+    for (proof, status, want) in [
+        (
+            NO_PROOF,
+            1,
+            b"T::id#1 missing\naccepted 0 of 1\n".as_slice(),
+        ),
+        (
+            b"(jdl 1 (proof T::id#1 -))".as_slice(),
+            1,
+            b"T::id#1 open 1\naccepted 0 of 1\n".as_slice(),
+        ),
+        (
+            b"(jdl 1 (proof T::id#1 (closeTrue R1 [] [])))".as_slice(),
+            1,
+            b"T::id#1 bad 1 5 NoMatch\naccepted 0 of 1\n".as_slice(),
+        ),
+        (
+            b"(jdl 1 (proof T::id#1 (cut - [] [] - -)))".as_slice(),
+            1,
+            b"T::id#1 bad 1 1 UnknownRule\naccepted 0 of 1\n".as_slice(),
+        ),
+        (
+            b"(jdl 1 (proof T::id#1 (frameReturn R1.4 [] [] - -)))".as_slice(),
+            1,
+            b"T::id#1 bad 1 15 BranchCount 2 1\naccepted 0 of 1\n".as_slice(),
+        ),
+        (
+            b"(jdl 2)".as_slice(),
+            6,
+            b"refused p.jdl Unbuilt at 0\n".as_slice(),
+        ),
+    ] {
+        let (ended, told) = replayed(alloc, proof, IDENTITY, &[], &[])?;
+        assert_eq!(rt; told.as_slice(), want);
+        assert_eq!(rt; ended.code(), status);
+    }
+    Ok(())
+}
+
+#[test]
+fn refuses_other_java(rt: HostRuntime) -> Result<(), Fail> {
+    let alloc = rt.alloc();
+    let (ended, told) = replayed(alloc, NO_PROOF, b"class T { int f; }", &[], &[])?;
+    assert_eq!(rt;
+        told.as_slice(),
+        b"refused T.java Unbuilt at 0\n".as_slice()
+    );
+    assert_eq!(rt; ended.code(), 5);
+    Ok(())
+}
+
+#[test]
+fn faults(rt: HostRuntime) -> Result<(), Fail> {
+    let alloc = rt.alloc();
+    let (ended, told) = replayed(alloc, NO_PROOF, IDENTITY, &[1], &[])?;
+    assert_eq!(rt; told.len(), 0);
+    assert_eq!(rt; ended.code(), 3);
+    let (ended, told) = replayed(alloc, NO_PROOF, IDENTITY, &[], &[1])?;
+    assert_eq!(rt; told.len(), 0);
+    assert_eq!(rt; ended.code(), 4);
+    Ok(())
+}

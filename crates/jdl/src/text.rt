@@ -1,0 +1,62 @@
+ghost use Rattle.std.specs.Prelude.{◌≡◌, ◌++◌, IfOk, OnOk};
+ghost use Rattle.std.specs.Fmt.{decimal};
+ghost use Rattle.jdl.specs.Reports.{line, usage_text, refused_text, proof_limit_text, file_limit_text, report_limit_text};
+
+use jd_base::{NoMemory, copy_bytes};
+use std::alloc::Global;
+
+/// Adds the decimal digits of a number.
+pub fn add_decimal(alloc: Global, out: &mut Vec<u8>, number: u64) -> Result<(), NoMemory>
+    ensures { OnOk result (out.new.items ≡ out.old.items ++ decimal number) }
+{
+    let digits = number.to_string(alloc)?;
+    out.extend_from_slice(digits.as_bytes())?;
+    Ok(())
+}
+
+/// A line of this text.
+pub fn line_of(alloc: Global, text: &[u8]) -> Result<Vec<u8>, NoMemory>
+    ensures { IfOk result (λ v. v.items ≡ line text.now) }
+{
+    let mut out = copy_bytes(alloc, text)?;
+    out.push(b'\n')?;
+    Ok(out)
+}
+
+/// The line for words that are no command.
+pub fn usage(alloc: Global) -> Result<Vec<u8>, NoMemory>
+    ensures { IfOk result (λ v. v.items ≡ usage_text) }
+{
+    line_of(alloc, b"usage: jdl COMMAND ARGUMENT..")
+}
+
+/// The line for a proof file that is too long.
+pub fn proof_too_long(alloc: Global) -> Result<Vec<u8>, NoMemory>
+    ensures { IfOk result (λ v. v.items ≡ proof_limit_text) }
+{
+    line_of(alloc, b"limit proof-bytes 16777216")
+}
+
+/// The line for a Java file that is too long.
+pub fn file_too_long(alloc: Global) -> Result<Vec<u8>, NoMemory>
+    ensures { IfOk result (λ v. v.items ≡ file_limit_text) }
+{
+    line_of(alloc, b"limit file-bytes 1048576")
+}
+
+/// The line for a report that is too long.
+pub fn report_too_long(alloc: Global) -> Result<Vec<u8>, NoMemory>
+    ensures { IfOk result (λ v. v.items ≡ report_limit_text) }
+{
+    line_of(alloc, b"limit report 67108864")
+}
+
+/// The line for a file that is refused.
+pub fn refused(alloc: Global, file: &[u8]) -> Result<Vec<u8>, NoMemory>
+    ensures { IfOk result (λ v. v.items ≡ refused_text file.now) }
+{
+    let mut out = copy_bytes(alloc, b"refused ")?;
+    out.extend_from_slice(file)?;
+    out.extend_from_slice(b" Unbuilt at 0\n")?;
+    Ok(out)
+}
