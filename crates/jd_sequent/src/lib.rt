@@ -6,6 +6,8 @@ mod limits;
 mod obligation;
 mod rule;
 mod script;
+#[cfg(test)]
+mod tests;
 
 pub use bad::Bad;
 pub use jd_model::{Node, Place, Sequent, Side};
