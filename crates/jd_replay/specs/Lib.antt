@@ -1,1 +1,2 @@
+pub mod TestRules
 pub mod Verdicts

@@ -1,6 +1,8 @@
 //! Replay of proof scripts over any set of rules.
 #![tactic(auto)]
 
+#[cfg(test)]
+mod tests;
 mod verdict;
 mod walk;
 
