@@ -127,6 +127,17 @@ fn reports(rt: HostRuntime) -> Result<(), Fail> {
 const IDENTITY: &[u8] =
     b"class T { /*@ ensures \\result == x; @*/ static int id(int x) { return x; } }";
 
+// The script that closes the obligation of `IDENTITY`.
+const IDENTITY_PROOF: &[u8] = b"(jdl 1 (proof T::id#1 \
+ (frameReturn R1.4 [] [] (setSimple R1.4 [] [] (catchEmpty R1.4.2 [] [] \
+ (emptyCode R1.4.2 [] [] (simplify R1 [] [] (andLeft L1 [] [] (andLeft L2 [] [] \
+ (andRight R1 [] [] (close R1 [L1] []) \
+  (andRight R1 [] [] \
+   (impRight R1 [] [] (andRight R1 [] [] (close R1 [L2] []) \
+     (eqRefl R1 [] [] (closeTrue R1 [] [])))) \
+   (impRight R1 [] [] (notLeft L4 [] [] \
+     (eqRefl R2 [] [] (closeTrue R2 [] [])))))))))))))))";
+
 const NO_PROOF: &[u8] = b"(jdl 1)";
 
 // Runs `replay p.jdl T.java` on the texts of the two files; the calls of the library and of the
@@ -193,6 +204,52 @@ fn replays(rt: HostRuntime) -> Result<(), Fail> {
 }
 
 #[test]
+fn identity(rt: HostRuntime) -> Result<(), Fail> {
+    let alloc = rt.alloc();
+    let (ended, told) = replayed(alloc, IDENTITY_PROOF, IDENTITY, &[], &[])?;
+    assert_eq!(rt;
+        told.as_slice(),
+        b"T::id#1 closed 19\naccepted 1 of 1\n".as_slice()
+    );
+    assert_eq!(rt; ended.code(), 0);
+    Ok(())
+}
+
+#[test]
+fn other_words(rt: HostRuntime) -> Result<(), Fail> {
+    let alloc = rt.alloc();
+    let words = words_of(alloc, &["replay", "p.jdl"])?;
+    let mut library = MemoryLibrary::new(Vec::new(alloc), Vec::new(alloc));
+    let Ok(mut sink) = MemorySink::new(alloc, 4096, Vec::new(alloc)) else {
+        return Err(Fail::from("no memory"));
+    };
+    let ended = run(alloc, &words, &mut library, &mut sink);
+    assert_eq!(rt; sink.bytes(), b"usage: jdl COMMAND ARGUMENT..\n".as_slice());
+    assert_eq!(rt; ended.code(), 2);
+    Ok(())
+}
+
+#[test]
+fn long_files(rt: HostRuntime) -> Result<(), Fail> {
+    let alloc = rt.alloc();
+    let mut java = Vec::with_capacity(alloc, 1048577)?;
+    for _ in 0..1048577 {
+        java.push(b' ')?;
+    }
+    let (ended, told) = replayed(alloc, NO_PROOF, &java, &[], &[])?;
+    assert_eq!(rt; told.as_slice(), b"limit file-bytes 1048576\n".as_slice());
+    assert_eq!(rt; ended.code(), 7);
+    java.truncate(1048576);
+    let (ended, told) = replayed(alloc, NO_PROOF, &java, &[], &[])?;
+    assert_eq!(rt;
+        told.as_slice(),
+        b"refused T.java Unbuilt at 0\n".as_slice()
+    );
+    assert_eq!(rt; ended.code(), 5);
+    Ok(())
+}
+
+#[test]
 fn refuses_other_java(rt: HostRuntime) -> Result<(), Fail> {
     let alloc = rt.alloc();
     let (ended, told) = replayed(alloc, NO_PROOF, b"class T { int f; }", &[], &[])?;
@@ -207,10 +264,12 @@ fn refuses_other_java(rt: HostRuntime) -> Result<(), Fail> {
 #[test]
 fn faults(rt: HostRuntime) -> Result<(), Fail> {
     let alloc = rt.alloc();
-    let (ended, told) = replayed(alloc, NO_PROOF, IDENTITY, &[1], &[])?;
-    assert_eq!(rt; told.len(), 0);
-    assert_eq!(rt; ended.code(), 3);
-    let (ended, told) = replayed(alloc, NO_PROOF, IDENTITY, &[], &[1])?;
+    for failing in [1, 2] {
+        let (ended, told) = replayed(alloc, IDENTITY_PROOF, IDENTITY, &[failing], &[])?;
+        assert_eq!(rt; told.len(), 0);
+        assert_eq!(rt; ended.code(), 3);
+    }
+    let (ended, told) = replayed(alloc, IDENTITY_PROOF, IDENTITY, &[], &[1])?;
     assert_eq!(rt; told.len(), 0);
     assert_eq!(rt; ended.code(), 4);
     Ok(())
