@@ -5,5 +5,7 @@ mod contract;
 mod maker;
 mod names;
 mod parts;
+#[cfg(test)]
+mod tests;
 
 pub use maker::{name_of, obligation};
