@@ -1,4 +1,5 @@
 pub mod Contexts
+pub mod ContractForms
 pub mod Places
 pub mod Nodes
 pub mod Sequents
