@@ -5,6 +5,7 @@ use Rattle.jd_term.specs.Terms.{PlainTerm, PlainLoc}
 use Rattle.jd_term.specs.TermViews.{term_view, loc_view}
 use Rattle.jd_term.specs.Formulas.{PlainFormula, formula_view}
 use Rattle.jd_model.specs.Sequents.{PlainSequent, sequent_view}
+use Rattle.jd_model.specs.ContractForms.{PlainContracts, contracts_view}
 use Rattle.jd_sequent.specs.declared.obligation.LoopForm.{LoopForm}
 use Rattle.jd_sequent.specs.declared.obligation.Obligation.{Obligation}
 use Rattle.jd_sequent.specs.declared.obligation.Task.{Task}
@@ -30,6 +31,7 @@ pub record PlainObligation : Type 0 where
 
 -- what the rules may look up beside the sequent
 pub record PlainTask : Type 0 where
+  pub contracts : PlainContracts
   pub obligation : PlainObligation
 
 abbrev pub loop_view : LoopForm → PlainLoop
@@ -55,4 +57,4 @@ obligation_view o = record {
 }
 
 abbrev pub task_view : Task → PlainTask
-task_view t = record { obligation = obligation_view t.obligation.now }
+task_view t = record { contracts = contracts_view t.contracts.now; obligation = obligation_view t.obligation.now }

@@ -10,7 +10,7 @@ mod script;
 mod tests;
 
 pub use bad::Bad;
-pub use jd_model::{Node, Place, Sequent, Side};
+pub use jd_model::{BodyForm, CaseForm, Contracts, InvForm, Node, Place, Sequent, Side};
 pub use limits::is_within_limits;
 pub use obligation::{LoopForm, Obligation, Task};
 pub use rule::RuleSet;

@@ -1,5 +1,9 @@
+ghost use Rattle.std.specs.Prelude.{◌≡◌};
+ghost use Rattle.jd_model.specs.ContractForms.{contracts_view};
+ghost use Rattle.jd_sequent.specs.Obligations.{obligation_view, task_view};
+
 use jd_base::{ClassId, ConstDecl, MethodId};
-use jd_model::Sequent;
+use jd_model::{Contracts, Sequent};
 use jd_syntax::{VarDecl, VarId};
 use jd_term::{Formula, Loc, Term};
 
@@ -44,6 +48,23 @@ pub struct Obligation {
 /// What the rules may look up beside the sequent.
 #[derive(Clone, Copy)]
 pub struct Task<'a> {
+    /// The contracts, invariants and bodies of the program.
+    pub contracts: &'a Contracts,
     /// The obligation that is being proved.
     pub obligation: &'a Obligation,
+}
+
+impl<'a> Task<'a> {
+    /// The task of an obligation among the contracts of its program. Takes no memory.
+    pub fn of(contracts: &'a Contracts, obligation: &'a Obligation) -> Task<'a>
+        ensures { task_view result ≡ record {
+          contracts = contracts_view contracts.now;
+          obligation = obligation_view obligation.now;
+        } }
+    {
+        Task {
+            contracts,
+            obligation,
+        }
+    }
 }
