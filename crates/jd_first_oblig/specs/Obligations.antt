@@ -1,12 +1,13 @@
 -- The obligation of a class with one static method (The KeY Book, 8.2 and 8.3).
-use Rattle.std.specs.Prelude.{ℕ, ◌<◌, ◌^◌, ℤ, pos, true, List, [], ◌∷◌, ◌++◌, map, Option, Some, None, codes}
-use Rattle.jd_base.specs.declared.sort.Sort.TheVariants.{Bool as BoolSort}
+use Rattle.std.specs.Prelude.{ℕ, ◌<◌, ◌^◌, pos, true, false, List, [], ◌∷◌, ◌++◌, map, length, Some, None, codes}
+use Rattle.jd_base.specs.declared.sort.Sort.TheVariants.{Int, Bool as BoolSort}
 use Rattle.jd_syntax.specs.Names.{Name, Declared}
-use Rattle.jd_syntax.specs.Codes.{PlainKind, OfClass, Expr, IntLiteral, Variable, Catch, Frame, Return, PlainCode, Done, Then}
+use Rattle.jd_syntax.specs.Codes.{OfClass, Expr, IntLiteral, Variable, Catch, Frame, Return, PlainCode, Done, Then}
 use Rattle.jd_term.specs.declared.formula.Modality.TheVariants.{Possibility}
-use Rattle.jd_term.specs.Terms.{PlainTerm, Number, Boolean, NullTerm, ProgramVariable, Constant, Select, CreatedField}
+use Rattle.jd_term.specs.Terms.{PlainTerm, Number, Boolean, NullTerm, ProgramVariable, Constant, Select, CreatedField, AllLocations}
 use Rattle.jd_term.specs.Formulas.{PlainFormula, TrueFormula, Not, And, Implies, Equal as SameTerm, Less as LessTerm, LessOrEqual as LessOrSame, Updated, Modal, InInt, WellFormed, IsInstance, Pairs}
 use Rattle.jd_model.specs.Sequents.{PlainSequent}
+use Rattle.jd_model.specs.ContractForms.{PlainCase, PlainBody, PlainContracts}
 use Rattle.jd_sequent.specs.Obligations.{PlainObligation}
 use Rattle.jd_first_java.specs.declared.syntax.Comparison.{Comparison}
 use Rattle.jd_first_java.specs.declared.syntax.Comparison.TheVariants.{Equal, NotEqual, Less, LessOrEqual, Greater, GreaterOrEqual}
@@ -40,10 +41,17 @@ condition_formula c = comparison_formula c.comparison (operand_term c.left) (ope
 abbrev pub in_range : List ℕ → PlainFormula
 in_range name = InInt (Constant (parameter_constant name))
 
--- before the run: the heap is well-formed, the arguments are 32-bit integers, and the measure is that of the case, 0
+-- before the run: the heap is well-formed and the arguments are 32-bit integers
+abbrev pub entry_conditions : Program → List PlainFormula
+entry_conditions p = WellFormed (Constant entry_heap) ∷ map in_range p.parameters
+
+-- the measure where no contract gives one
+abbrev pub case_measure : PlainTerm
+case_measure = Number (pos 0)
+
+-- the same, and the measure is that of the case
 abbrev pub entry_members : Program → List PlainFormula
-entry_members p =
-    WellFormed (Constant entry_heap) ∷ (map in_range p.parameters ++ (SameTerm (Constant entry_measure) (Number (pos 0)) ∷ []))
+entry_members p = entry_conditions p ++ (SameTerm (Constant entry_measure) case_measure ∷ [])
 
 -- after a normal end: the result is a 32-bit integer and the postcondition holds
 abbrev pub normal_members : Program → List PlainFormula
@@ -117,18 +125,55 @@ obligation_name p = p.class ++ (codes "::" ++ (p.method ++ codes "#1"))
 abbrev pub class_number : ℕ
 class_number = 10
 
+abbrev pub method_number : ℕ
+method_number = 0
+
+-- the one case of the method
+abbrev pub case_number : ℕ
+case_number = 1
+
 abbrev pub declared_parameter : List ℕ → Declared
 declared_parameter name = record { name = parameter_variable name; class = None }
+
+abbrev pub declared_parameters : Program → List Declared
+declared_parameters p = map declared_parameter p.parameters
 
 abbrev pub obligation_of : Program → PlainObligation
 obligation_of p = record {
   name = obligation_name p;
   class = class_number;
-  method = 0;
-  case = 1;
-  vars = map declared_parameter p.parameters;
+  method = method_number;
+  case = case_number;
+  vars = declared_parameters p;
   loops = [];
   consts = entry_heap ∷ entry_measure ∷ receiver ∷ map parameter_constant p.parameters;
   diamond = true;
   sequent = obligation_sequent p;
 }
+
+-- ---- the tables: the method's one case and its body; the class has no invariants
+
+abbrev pub case_of : Program → PlainCase
+case_of p = record {
+  method = method_number;
+  class = class_number;
+  number = case_number;
+  entry = entry_conditions p;
+  exit = normal_members p;
+  exceptional = exceptional_members;
+  frame = AllLocations;
+  measure = case_measure;
+  diverges = false;
+}
+
+abbrev pub body_of : Program → PlainBody
+body_of p = record {
+  method = method_number;
+  params = length p.parameters;
+  vars = declared_parameters p;
+  result = Some Int;
+  code = body_code p;
+}
+
+abbrev pub contracts_of : Program → PlainContracts
+contracts_of p = record { cases = case_of p ∷ []; invariants = []; bodies = body_of p ∷ [] }

@@ -2,7 +2,7 @@ ghost use Rattle.std.specs.Prelude.{◌≡◌, ◌++◌, ◌∷◌, [], IfOk, ma
 ghost use Rattle.jd_term.specs.TermViews.{term_view};
 ghost use Rattle.jd_term.specs.Formulas.{formula_view};
 ghost use Rattle.jd_first_java.specs.Reads.{operand_view, condition_view, program_view};
-ghost use Rattle.jd_first_oblig.specs.Obligations.{operand_term, comparison_formula, condition_formula, in_range, entry_members, normal_members, exceptional_members, exit_members, none_thrown, created_thrown, conjunction};
+ghost use Rattle.jd_first_oblig.specs.Obligations.{operand_term, comparison_formula, condition_formula, in_range, entry_conditions, case_measure, entry_members, normal_members, exceptional_members, exit_members, none_thrown, created_thrown, conjunction};
 
 use crate::names::{constant_of, heap, heap_at_entry, measure_at_entry, result, thrown};
 use crate::parts::{boxed_term, conjoined, implied, negated};
@@ -55,28 +55,43 @@ fn in_range_of(alloc: Global, name: &[u8]) -> Result<Formula, NoMemory>
     Ok(Formula::InInt(Term::Constant(constant_of(alloc, name)?)))
 }
 
-/// What holds before the run.
-pub fn entry(alloc: Global, program: &Program) -> Result<Formula, NoMemory>
-    ensures { IfOk result (λ f. formula_view f ≡ conjunction (entry_members (program_view program.now))) }
+/// What holds before the run, but for the measure.
+pub fn entry_conditions(alloc: Global, program: &Program) -> Result<Vec<Formula>, NoMemory>
+    ensures { IfOk result (λ v. map formula_view v.items ≡ entry_conditions (program_view program.now)) }
 {
     let mut members = Vec::new(alloc);
     members.push(Formula::WellFormed(Term::Constant(heap_at_entry(alloc)?)))?;
     for name in &program.parameters {
         members.push(in_range_of(alloc, name)?)?;
     }
+    Ok(members)
+}
+
+/// The measure at the entry.
+pub fn case_measure() -> Term
+    ensures { term_view result ≡ case_measure }
+{
+    Term::Number(0)
+}
+
+/// What holds before the run.
+pub fn entry(alloc: Global, program: &Program) -> Result<Formula, NoMemory>
+    ensures { IfOk result (λ f. formula_view f ≡ conjunction (entry_members (program_view program.now))) }
+{
+    let mut members = entry_conditions(alloc, program)?;
     let measure = Term::Constant(measure_at_entry(alloc)?);
-    members.push(Formula::Equal(measure, Term::Number(0)))?;
+    members.push(Formula::Equal(measure, case_measure()))?;
     conjoined(alloc, members)
 }
 
-// What holds after a normal end.
-fn normal(alloc: Global, program: &Program) -> Result<Formula, NoMemory>
-    ensures { IfOk result (λ f. formula_view f ≡ conjunction (normal_members (program_view program.now))) }
+/// What holds after a normal end.
+pub fn normal_members(alloc: Global, program: &Program) -> Result<Vec<Formula>, NoMemory>
+    ensures { IfOk result (λ v. map formula_view v.items ≡ normal_members (program_view program.now)) }
 {
     let mut members = Vec::new(alloc);
     members.push(Formula::InInt(Term::ProgramVariable(result(alloc)?)))?;
     members.push(condition(alloc, &program.ensures_)?)?;
-    conjoined(alloc, members)
+    Ok(members)
 }
 
 // The thrown object is created.
@@ -90,15 +105,15 @@ fn thrown_is_created(alloc: Global) -> Result<Formula, NoMemory>
     Ok(Formula::Equal(created, Term::Boolean(true)))
 }
 
-// What holds after an exception.
-fn exceptional(alloc: Global) -> Result<Formula, NoMemory>
-    ensures { IfOk result (λ f. formula_view f ≡ conjunction exceptional_members) }
+/// What holds after an exception.
+pub fn exceptional_members(alloc: Global) -> Result<Vec<Formula>, NoMemory>
+    ensures { IfOk result (λ v. map formula_view v.items ≡ exceptional_members) }
 {
     let mut members = Vec::new(alloc);
     let object = Term::ProgramVariable(thrown(alloc)?);
     members.push(Formula::IsInstance(Kind::Class(ClassId(1)), object))?;
     members.push(thrown_is_created(alloc)?)?;
-    conjoined(alloc, members)
+    Ok(members)
 }
 
 fn nothing_thrown(alloc: Global) -> Result<Formula, NoMemory>
@@ -114,10 +129,10 @@ pub fn exit(alloc: Global, program: &Program) -> Result<Formula, NoMemory>
 {
     let mut members = Vec::new(alloc);
     members.push(Formula::WellFormed(Term::ProgramVariable(heap(alloc)?)))?;
-    let ended = normal(alloc, program)?;
+    let ended = conjoined(alloc, normal_members(alloc, program)?)?;
     members.push(implied(alloc, nothing_thrown(alloc)?, ended)?)?;
     let some_thrown = negated(alloc, nothing_thrown(alloc)?)?;
-    let threw = exceptional(alloc)?;
+    let threw = conjoined(alloc, exceptional_members(alloc)?)?;
     members.push(implied(alloc, some_thrown, threw)?)?;
     conjoined(alloc, members)
 }

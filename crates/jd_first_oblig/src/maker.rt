@@ -7,14 +7,15 @@ ghost use Rattle.jd_model.specs.Sequents.{sequent_view};
 ghost use Rattle.jd_sequent.specs.Obligations.{obligation_view};
 ghost use Rattle.jd_first_java.specs.Reads.{operand_view, program_view};
 ghost use Rattle.jd_first_oblig.specs.Special.{entry_heap, entry_measure, receiver, parameter_constant};
-ghost use Rattle.jd_first_oblig.specs.Obligations.{IsLiteralInRange, value_expr, body_code, framed_code, run_code, start_pairs, obligation_sequent, obligation_name, declared_parameter, obligation_of};
+ghost use Rattle.jd_first_oblig.specs.Obligations.{IsLiteralInRange, value_expr, body_code, framed_code, run_code, start_pairs, obligation_sequent, obligation_name, declared_parameters, obligation_of};
 
 use crate::contract::{entry, exit};
 use crate::names::{
-    constant_of, heap, heap_at_entry, measure_at_entry, result, this_receiver, thrown, variable_of,
+    CASE, CLASS, METHOD, constant_of, heap, heap_at_entry, measure_at_entry, result, this_receiver,
+    thrown, variable_of,
 };
 use crate::parts::{alone, boxed, no_statement};
-use jd_base::{ClassId, ConstDecl, MethodId, NoMemory, copy_bytes};
+use jd_base::{ConstDecl, NoMemory, copy_bytes};
 use jd_first_java::{Operand, Program};
 use jd_model::Sequent;
 use jd_sequent::Obligation;
@@ -33,8 +34,8 @@ fn value(alloc: Global, operand: &Operand) -> Result<CodeExpr, NoMemory>
     }
 }
 
-// The method's body.
-fn body(alloc: Global, program: &Program) -> Result<Code, NoMemory>
+/// The method's body.
+pub fn body(alloc: Global, program: &Program) -> Result<Code, NoMemory>
     requires { IsLiteralInRange (operand_view program.now.value) }
     ensures { IfOk result (λ c. code_view c ≡ body_code (program_view program.now)) }
 {
@@ -110,9 +111,10 @@ pub fn name_of(alloc: Global, program: &Program) -> Result<Vec<u8>, NoMemory>
     Ok(name)
 }
 
-fn declared(alloc: Global, program: &Program) -> Result<Vec<VarDecl>, NoMemory>
+/// The declarations of the parameters.
+pub fn declared(alloc: Global, program: &Program) -> Result<Vec<VarDecl>, NoMemory>
     ensures { IfOk result
-        (λ v. map decl_view v.items ≡ map declared_parameter (program_view program.now).parameters) }
+        (λ v. map decl_view v.items ≡ declared_parameters (program_view program.now)) }
 {
     let mut vars = Vec::new(alloc);
     for name in &program.parameters {
@@ -161,9 +163,9 @@ pub fn obligation(alloc: Global, program: &Program) -> Result<Obligation, NoMemo
     let sequent = sequent(alloc, program)?;
     Ok(Obligation {
         name,
-        class: ClassId(10),
-        method: MethodId(0),
-        case: 1,
+        class: CLASS,
+        method: METHOD,
+        case: CASE,
         vars,
         loops: Vec::new(alloc),
         consts,

@@ -3,10 +3,19 @@ ghost use Rattle.jd_syntax.specs.Names.{var_view};
 ghost use Rattle.jd_term.specs.TermViews.{const_view};
 ghost use Rattle.jd_first_oblig.specs.Special.{heap_variable, result_variable, thrown_variable, entry_heap, entry_measure, receiver, printed_name, parameter_variable, parameter_constant};
 
-use jd_base::{NoMemory, Sort, copy_bytes};
+use jd_base::{ClassId, MethodId, NoMemory, Sort, copy_bytes};
 use jd_syntax::VarId;
 use jd_term::ConstId;
 use std::alloc::Global;
+
+/// The number of the class: it comes after the ten of the prelude.
+pub const CLASS: ClassId = ClassId(10);
+
+/// The number of the method: the first, since the prelude has none.
+pub const METHOD: MethodId = MethodId(0);
+
+/// The number of the one case of the method's contract.
+pub const CASE: u32 = 1;
 
 pub fn heap(alloc: Global) -> Result<VarId, NoMemory>
     ensures { IfOk result (λ v. var_view v ≡ heap_variable) }

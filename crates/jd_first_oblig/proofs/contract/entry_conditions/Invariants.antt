@@ -3,7 +3,7 @@ use Rattle.jd_term.specs.Terms.{Constant}
 use Rattle.jd_term.specs.Formulas.{WellFormed, formula_view}
 use Rattle.jd_first_oblig.specs.Special.{entry_heap}
 use Rattle.jd_first_oblig.specs.Obligations.{in_range}
-use Rattle.jd_first_oblig.proofs.contract.entry.Given as goal
+use Rattle.jd_first_oblig.proofs.contract.entry_conditions.Given as goal
 
 abbrev pub invariant-loop-name : goal.invariant-loop-name
 invariant-loop-name l = map formula_view l.members.items ≡ WellFormed (Constant entry_heap) ∷ map in_range (map (λ v. v.items) (take l.name-index l.name-items))
