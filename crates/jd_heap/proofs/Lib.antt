@@ -1,0 +1,3 @@
+pub mod Entries
+pub mod Fresh
+pub mod HeapLaws

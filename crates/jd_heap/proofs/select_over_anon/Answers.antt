@@ -1,0 +1,5 @@
+use Rattle.jd_heap.proofs.HeapLaws.{select_over_anon}
+use Rattle.jd_heap.proofs.select_over_anon.Goals as goal
+
+pub returns : goal.returns
+returns c = select_over_anon
