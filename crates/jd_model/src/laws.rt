@@ -1,0 +1,46 @@
+ghost use Rattle.jd_model.specs.Laws.{MoreGivesTheSame, AreStable, MayBeTaken, AreCoincident, AreReplaceable, AreSubstituted, AreRenamed, FocusDecides, CreatedStays};
+
+/// More depth of calls or turns of loops give the same outcome of a run that is over.
+pub fn more_gives_the_same()
+    ensures { MoreGivesTheSame }
+{}
+
+/// Where the denial of a truth, a validity, an entry, an exit, an end or of 'kept' and 'usable' fails, it holds.
+pub fn are_stable()
+    ensures { AreStable }
+{}
+
+/// To prove such a statement, what is known only not to be absent may be taken as given.
+pub fn may_be_taken()
+    ensures { MayBeTaken }
+{}
+
+/// Variables and constants that do not occur do not matter (the coincidence lemma).
+pub fn are_coincident()
+    ensures { AreCoincident }
+{}
+
+/// Equal truth of a part gives equal truth of the whole, equal values likewise.
+pub fn are_replaceable()
+    ensures { AreReplaceable }
+{}
+
+/// Shifting and substitution keep values and truth (the substitution lemma).
+pub fn are_substituted()
+    ensures { AreSubstituted }
+{}
+
+/// Renaming keeps values and truth.
+pub fn are_renamed()
+    ensures { AreRenamed }
+{}
+
+/// What the focused statements do decides what the whole code does, in every context.
+pub fn focus_decides()
+    ensures { FocusDecides }
+{}
+
+/// What is created stays created in a run.
+pub fn created_stays()
+    ensures { CreatedStays }
+{}
