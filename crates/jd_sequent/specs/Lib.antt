@@ -4,3 +4,4 @@ pub mod Obligations
 pub mod Rules
 pub mod Steps
 pub mod Trees
+pub mod TaskMeaning
