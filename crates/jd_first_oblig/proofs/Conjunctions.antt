@@ -3,7 +3,7 @@ use Rattle.std.proofs.Common.{◌≡◌, List, [], ◌∷◌, ◌++◌, map, ref
 use Rattle.std.proofs.lemmas.List.{map-append}
 use Rattle.jd_term.specs.declared.formula.Formula.{Formula}
 use Rattle.jd_term.specs.Formulas.{PlainFormula, And, formula_view}
-use Rattle.jd_first_oblig.specs.Obligations.{conjunction}
+use Rattle.jd_model.specs.Conjunctions.{conjunction}
 
 joined_last : (xs : List PlainFormula) (a b : PlainFormula) → conjunction (xs ++ a ∷ b ∷ []) ≡ conjunction (xs ++ And a b ∷ [])
 joined_last [] a b = refl

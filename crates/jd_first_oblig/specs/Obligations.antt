@@ -6,26 +6,23 @@ use Rattle.jd_syntax.specs.Codes.{OfClass, Expr, IntLiteral, Variable, Catch, Fr
 use Rattle.jd_term.specs.declared.formula.Modality.TheVariants.{Possibility}
 use Rattle.jd_term.specs.Terms.{PlainTerm, Number, Boolean, NullTerm, ProgramVariable, Constant, Select, CreatedField, AllLocations}
 use Rattle.jd_term.specs.Formulas.{PlainFormula, TrueFormula, Not, And, Implies, Equal as SameTerm, Less as LessTerm, LessOrEqual as LessOrSame, Updated, Modal, InInt, WellFormed, IsInstance, Pairs}
+use Rattle.jd_model.specs.Conjunctions.{conjunction}
 use Rattle.jd_model.specs.Sequents.{PlainSequent}
 use Rattle.jd_model.specs.ContractForms.{PlainCase, PlainBody, PlainContracts}
 use Rattle.jd_sequent.specs.Obligations.{PlainObligation}
 use Rattle.jd_first_java.specs.declared.syntax.Comparison.{Comparison}
 use Rattle.jd_first_java.specs.declared.syntax.Comparison.TheVariants.{Equal, NotEqual, Less, LessOrEqual, Greater, GreaterOrEqual}
 use Rattle.jd_first_java.specs.Programs.{Operand, Parameter, Literal, Result, Condition, Program}
-use Rattle.jd_first_oblig.specs.Special.{heap_variable, result_variable, thrown_variable, entry_heap, entry_measure, receiver, parameter_variable, parameter_constant}
-
--- the conjunction of the members, grouped to the right
-abbrev pub conjunction : List PlainFormula → PlainFormula
-conjunction [] = TrueFormula
-conjunction (a ∷ []) = a
-conjunction (a ∷ (b ∷ rest)) = And a (conjunction (b ∷ rest))
+use Rattle.jd_first_oblig.specs.Special.{parameter_variable, parameter_constant}
+use Rattle.jd_model.specs.SpecialNames.{int_result, thrown_variable, entry_heap, entry_measure, receiver}
+use Rattle.jd_syntax.specs.CodeNames.{heap_name}
 
 -- ---- the contract as formulas: parameters are their constants
 
 abbrev pub operand_term : Operand → PlainTerm
 operand_term (Parameter name) = Constant (parameter_constant name)
 operand_term (Literal n) = Number (pos n)
-operand_term Result = ProgramVariable result_variable
+operand_term Result = ProgramVariable int_result
 
 abbrev pub comparison_formula : Comparison → PlainTerm → PlainTerm → PlainFormula
 comparison_formula Equal t u = SameTerm t u
@@ -55,14 +52,14 @@ entry_members p = entry_conditions p ++ (SameTerm (Constant entry_measure) case_
 
 -- after a normal end: the result is a 32-bit integer and the postcondition holds
 abbrev pub normal_members : Program → List PlainFormula
-normal_members p = InInt (ProgramVariable result_variable) ∷ condition_formula p.ensures_ ∷ []
+normal_members p = InInt (ProgramVariable int_result) ∷ condition_formula p.ensures_ ∷ []
 
 -- Throwable comes second among the classes of the prelude
 abbrev pub throwable : ℕ
 throwable = 1
 
 abbrev pub created_thrown : PlainFormula
-created_thrown = SameTerm (Select BoolSort (ProgramVariable heap_variable) (ProgramVariable thrown_variable) CreatedField) (Boolean true)
+created_thrown = SameTerm (Select BoolSort (ProgramVariable heap_name) (ProgramVariable thrown_variable) CreatedField) (Boolean true)
 
 -- after an exception: it is a created Throwable
 abbrev pub exceptional_members : List PlainFormula
@@ -74,7 +71,7 @@ none_thrown = SameTerm (ProgramVariable thrown_variable) NullTerm
 
 abbrev pub exit_members : Program → List PlainFormula
 exit_members p =
-    WellFormed (ProgramVariable heap_variable)
+    WellFormed (ProgramVariable heap_name)
     ∷ Implies none_thrown (conjunction (normal_members p))
     ∷ Implies (Not none_thrown) (conjunction exceptional_members)
     ∷ []
@@ -84,7 +81,7 @@ exit_members p =
 abbrev pub value_expr : Operand → Expr
 value_expr (Parameter name) = Variable (parameter_variable name)
 value_expr (Literal n) = IntLiteral (pos n)
-value_expr Result = Variable result_variable
+value_expr Result = Variable int_result
 
 abbrev pub body_code : Program → PlainCode
 body_code p = Then (Return (value_expr p.value)) Done
@@ -97,7 +94,7 @@ IsLiteralInRange Result = Unit {0}
 
 -- the body in a frame for its result
 abbrev pub framed_code : Program → PlainCode
-framed_code p = Then (Frame (Some result_variable) (body_code p)) Done
+framed_code p = Then (Frame (Some int_result) (body_code p)) Done
 
 -- the frame in a catch for what it throws
 abbrev pub run_code : Program → PlainCode
@@ -108,7 +105,7 @@ parameter_pair name = (parameter_variable name, Constant (parameter_constant nam
 
 abbrev pub start_pairs : Program → Pairs
 start_pairs p =
-    (heap_variable, Constant entry_heap) ∷ (map parameter_pair p.parameters ++ ((thrown_variable, NullTerm) ∷ []))
+    (heap_name, Constant entry_heap) ∷ (map parameter_pair p.parameters ++ ((thrown_variable, NullTerm) ∷ []))
 
 -- ---- the obligation: from an entry state the run ends and meets the exit's formulas
 

@@ -2,7 +2,8 @@ ghost use Rattle.std.specs.Prelude.{◌≡◌, ◌++◌, ◌∷◌, [], IfOk, ma
 ghost use Rattle.jd_term.specs.TermViews.{term_view};
 ghost use Rattle.jd_term.specs.Formulas.{formula_view};
 ghost use Rattle.jd_first_java.specs.Reads.{operand_view, condition_view, program_view};
-ghost use Rattle.jd_first_oblig.specs.Obligations.{operand_term, comparison_formula, condition_formula, in_range, entry_conditions, case_measure, entry_members, normal_members, exceptional_members, exit_members, none_thrown, created_thrown, conjunction};
+ghost use Rattle.jd_first_oblig.specs.Obligations.{operand_term, comparison_formula, condition_formula, in_range, entry_conditions, case_measure, entry_members, normal_members, exceptional_members, exit_members, none_thrown, created_thrown};
+ghost use Rattle.jd_model.specs.Conjunctions.{conjunction};
 
 use crate::names::{constant_of, heap, heap_at_entry, measure_at_entry, result, thrown};
 use crate::parts::{boxed_term, conjoined, implied, negated};

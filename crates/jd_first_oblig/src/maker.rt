@@ -6,7 +6,8 @@ ghost use Rattle.jd_term.specs.Formulas.{update_view};
 ghost use Rattle.jd_model.specs.Sequents.{sequent_view};
 ghost use Rattle.jd_sequent.specs.Obligations.{obligation_view};
 ghost use Rattle.jd_first_java.specs.Reads.{operand_view, program_view};
-ghost use Rattle.jd_first_oblig.specs.Special.{entry_heap, entry_measure, receiver, parameter_constant};
+ghost use Rattle.jd_first_oblig.specs.Special.{parameter_constant};
+ghost use Rattle.jd_model.specs.SpecialNames.{entry_heap, entry_measure, receiver};
 ghost use Rattle.jd_first_oblig.specs.Obligations.{IsLiteralInRange, value_expr, body_code, framed_code, run_code, start_pairs, obligation_sequent, obligation_name, declared_parameters, obligation_of};
 
 use crate::contract::{entry, exit};

@@ -1,7 +1,9 @@
 ghost use Rattle.std.specs.Prelude.{◌≡◌, ◌++◌, IfOk};
 ghost use Rattle.jd_syntax.specs.Names.{var_view};
 ghost use Rattle.jd_term.specs.TermViews.{const_view};
-ghost use Rattle.jd_first_oblig.specs.Special.{heap_variable, result_variable, thrown_variable, entry_heap, entry_measure, receiver, printed_name, parameter_variable, parameter_constant};
+ghost use Rattle.jd_first_oblig.specs.Special.{printed_name, parameter_variable, parameter_constant};
+ghost use Rattle.jd_model.specs.SpecialNames.{int_result, thrown_variable, entry_heap, entry_measure, receiver};
+ghost use Rattle.jd_syntax.specs.CodeNames.{heap_name};
 
 use jd_base::{ClassId, MethodId, NoMemory, Sort, copy_bytes};
 use jd_syntax::VarId;
@@ -18,7 +20,7 @@ pub const METHOD: MethodId = MethodId(0);
 pub const CASE: u32 = 1;
 
 pub fn heap(alloc: Global) -> Result<VarId, NoMemory>
-    ensures { IfOk result (λ v. var_view v ≡ heap_variable) }
+    ensures { IfOk result (λ v. var_view v ≡ heap_name) }
 {
     let name = copy_bytes(alloc, b"@heap")?;
     let sort = Sort::Heap;
@@ -26,7 +28,7 @@ pub fn heap(alloc: Global) -> Result<VarId, NoMemory>
 }
 
 pub fn result(alloc: Global) -> Result<VarId, NoMemory>
-    ensures { IfOk result (λ v. var_view v ≡ result_variable) }
+    ensures { IfOk result (λ v. var_view v ≡ int_result) }
 {
     let name = copy_bytes(alloc, b"@ires")?;
     let sort = Sort::Int;

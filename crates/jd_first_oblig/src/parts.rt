@@ -6,7 +6,7 @@ ghost use Rattle.jd_syntax.specs.Names.{var_view};
 ghost use Rattle.jd_term.specs.Terms.{ProgramVariable, Select, CreatedField, Boolean};
 ghost use Rattle.jd_term.specs.TermViews.{term_view};
 ghost use Rattle.jd_term.specs.Formulas.{formula_view, And as Both, Implies as Implied, Not as Negated, Equal as SameTerm};
-ghost use Rattle.jd_first_oblig.specs.Obligations.{conjunction};
+ghost use Rattle.jd_model.specs.Conjunctions.{conjunction};
 
 use jd_base::NoMemory;
 use jd_syntax::{Code, CodeStmt};

@@ -1,7 +1,7 @@
 use Rattle.std.proofs.Common.{◌≡◌, ◌∷◌, map, take}
 use Rattle.jd_term.specs.Terms.{Constant}
 use Rattle.jd_term.specs.Formulas.{WellFormed, formula_view}
-use Rattle.jd_first_oblig.specs.Special.{entry_heap}
+use Rattle.jd_model.specs.SpecialNames.{entry_heap}
 use Rattle.jd_first_oblig.specs.Obligations.{in_range}
 use Rattle.jd_first_oblig.proofs.contract.entry_conditions.Given as goal
 

@@ -1,6 +1,7 @@
 use Rattle.std.proofs.Common.{◌≡◌, ◌∷◌, map, take}
 use Rattle.jd_syntax.specs.Names.{const_decl_view}
-use Rattle.jd_first_oblig.specs.Special.{entry_heap, entry_measure, receiver, parameter_constant}
+use Rattle.jd_first_oblig.specs.Special.{parameter_constant}
+use Rattle.jd_model.specs.SpecialNames.{entry_heap, entry_measure, receiver}
 use Rattle.jd_first_oblig.proofs.maker.constants.Given as goal
 
 abbrev pub invariant-loop-name : goal.invariant-loop-name

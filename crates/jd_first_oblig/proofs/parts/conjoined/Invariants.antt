@@ -1,6 +1,6 @@
 use Rattle.std.proofs.Common.{◌≡◌, ◌++◌, ◌∷◌, [], map, vec_len}
 use Rattle.jd_term.specs.Formulas.{formula_view}
-use Rattle.jd_first_oblig.specs.Obligations.{conjunction}
+use Rattle.jd_model.specs.Conjunctions.{conjunction}
 use Rattle.jd_first_oblig.proofs.parts.conjoined.Given as goal
 
 abbrev pub decreases-loop-member : goal.decreases-loop-member
