@@ -1,6 +1,7 @@
 //! The twelve rules of the first replay.
 #![tactic(auto)]
 
+mod cause;
 mod focus;
 mod names;
 mod parts;

@@ -7,6 +7,7 @@ ghost use Rattle.jd_first_rules.specs.Steps.{IsStep};
 ghost use Rattle.jd_first_rules.specs.Instances.{IsInstance};
 ghost use Rattle.jd_first_rules.specs.Laws.{IsNoInstance, takes_all, no_cause, one_way, few};
 
+use crate::cause::first_cause;
 use crate::names::named;
 use crate::rules::{FirstRule, Kind};
 use crate::step::{close, kind, rewrite, row};
@@ -18,7 +19,7 @@ use std::alloc::Global;
 #[derive(Clone, Copy, Debug)]
 pub struct FirstRules;
 
-// A step of a rule.
+// A step of a rule. Which cause a refusal has, `first_cause` says.
 fn applied(
     alloc: Global,
     rule: FirstRule,
@@ -64,7 +65,7 @@ impl RuleSet for FirstRules {
             return Err(Bad::UnknownRule)
         };
         let premises = match applied(alloc, rule, sequent, step) {
-            Err(bad) => return Err(bad),
+            Err(bad) => return Err(first_cause(alloc, rule, sequent, step, bad)),
             Ok(premises) => premises,
         };
         if !step.insts.is_empty() {

@@ -52,7 +52,8 @@ fn index_of(place: &Option<Place>, side: Side) -> Option<u32>
     }
 }
 
-fn is_side(a: Side, b: Side) -> bool
+/// Whether the sides are the same.
+pub fn is_side(a: Side, b: Side) -> bool
     ensures { result ≡ same_side a b }
 {
     match (a, b) {

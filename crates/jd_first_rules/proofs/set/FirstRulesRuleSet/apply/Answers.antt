@@ -16,7 +16,7 @@ true_false h = cc
 
 pub returns-in-Err : goal.returns-in-Err
 returns-in-Err c =
-    caused c.in-Err.bad (IsNoInstance (sequent_view c.args.sequent.now) (step_view c.args.step.now)) (λ other. no_step c.in-Some.rule _ (step_view c.args.step.now) (sym (ap rule_named c.deref.ensures.value) ∙ sym c.named.ensures.rule ∙ c.in-Some.is) (c.in-Err.ensures other))
+    caused c.first_cause.result (IsNoInstance (sequent_view c.args.sequent.now) (step_view c.args.step.now)) (λ other. no_step c.in-Some.rule _ (step_view c.args.step.now) (sym (ap rule_named c.deref.ensures.value) ∙ sym c.named.ensures.rule ∙ c.in-Some.is) (c.in-Err.ensures (λ e. other (c.first_cause.ensures e))))
 
 pub returns-then-not-are_within : goal.returns-then-not-are_within
 returns-then-not-are_within c =
