@@ -10,6 +10,8 @@ mod rows;
 mod rules;
 mod set;
 mod step;
+#[cfg(test)]
+mod tests;
 
 pub use rules::{FirstRule, Kind};
 pub use set::FirstRules;

@@ -181,6 +181,51 @@ fn replays(rt: HostRuntime) -> Result<(), Fail> {
             b"T::id#1 bad 1 5 NoMatch\naccepted 0 of 1\n".as_slice(),
         ),
         (
+            b"(jdl 1 (proof T::id#1 (close R2 [L1] [])))".as_slice(),
+            1,
+            b"T::id#1 bad 1 2 NoFormula\naccepted 0 of 1\n".as_slice(),
+        ),
+        (
+            b"(jdl 1 (proof T::id#1 (eqRefl - [] [] -)))".as_slice(),
+            1,
+            b"T::id#1 bad 1 2 NoFormula\naccepted 0 of 1\n".as_slice(),
+        ),
+        (
+            b"(jdl 1 (proof T::id#1 (andLeft L1.3 [] [] -)))".as_slice(),
+            1,
+            b"T::id#1 bad 1 3 NoPlace\naccepted 0 of 1\n".as_slice(),
+        ),
+        (
+            b"(jdl 1 (proof T::id#1 (andLeft R1 [] [] -)))".as_slice(),
+            1,
+            b"T::id#1 bad 1 4 WrongPlaceKind\naccepted 0 of 1\n".as_slice(),
+        ),
+        (
+            b"(jdl 1 (proof T::id#1 (andLeft L1.2 [] [] -)))".as_slice(),
+            1,
+            b"T::id#1 bad 1 4 WrongPlaceKind\naccepted 0 of 1\n".as_slice(),
+        ),
+        (
+            b"(jdl 1 (proof T::id#1 (eqRefl R1.1 [] [] -)))".as_slice(),
+            1,
+            b"T::id#1 bad 1 4 WrongPlaceKind\naccepted 0 of 1\n".as_slice(),
+        ),
+        (
+            b"(jdl 1 (proof T::id#1 (close R1 [] [])))".as_slice(),
+            1,
+            b"T::id#1 bad 1 8 NoAssume\naccepted 0 of 1\n".as_slice(),
+        ),
+        (
+            b"(jdl 1 (proof T::id#1 (close R1 [L1] [])))".as_slice(),
+            1,
+            b"T::id#1 bad 1 8 NoAssume\naccepted 0 of 1\n".as_slice(),
+        ),
+        (
+            b"(jdl 1 (proof T::id#1 (andLeft L1 [L1] [] -)))".as_slice(),
+            1,
+            b"T::id#1 bad 1 8 NoAssume\naccepted 0 of 1\n".as_slice(),
+        ),
+        (
             b"(jdl 1 (proof T::id#1 (cut - [] [] - -)))".as_slice(),
             1,
             b"T::id#1 bad 1 1 UnknownRule\naccepted 0 of 1\n".as_slice(),
