@@ -22,7 +22,7 @@ use crate::text::{file_too_long, proof_too_long, refused, report_too_long, usage
 use crate::words::{ReplayFiles, replay_files};
 use jd_base::{Library, NoMemory, ReadRefusal, read_whole};
 use jd_first_java::{Program, read_program};
-use jd_first_oblig::{name_of, obligation};
+use jd_first_oblig::{contracts, name_of, obligation};
 use jd_first_script::{Script, read_script};
 use jd_replay::{Verdict, replay};
 use jd_sequent::{RuleSet, ScriptTree, Task};
@@ -75,10 +75,9 @@ fn verdict_of<R: RuleSet>(
     ensures { IfOk result
         (λ verdict. IsVerdict (leads_of (R.instance rules.now) (program_view program.now)) (tree_of (map node_view tree.now.nodes.items)) (obligation_sequent (program_view program.now)) verdict) }
 {
+    let contracts = contracts(alloc, program)?;
     let obligation = obligation(alloc, program)?;
-    let task = Task {
-        obligation: &obligation,
-    };
+    let task = Task::of(&contracts, &obligation);
     replay(alloc, rules, &task, &obligation.sequent, tree)
 }
 

@@ -1,8 +1,7 @@
-use Rattle.jd_first_oblig.specs.Obligations.{obligation_of}
-use Rattle.jdl.specs.Answers.{leads_of}
+use Rattle.jdl.specs.Answers.{task_of, leads_of}
 use Rattle.jdl.proofs.Unique.{answer_unique}
 use Rattle.jdl.proofs.answer.one_answer.Goals as goal
 
 pub returns : goal.returns
 returns g c =
-    answer_unique (leads_of (g.R.RuleSet.instance c.args._rules.now)) (λ q s p ps qs l m. g.met.R.RuleSet.one_way c.args._rules.now (record { obligation = obligation_of q }) s p ps qs l.0 m.0)
+    answer_unique (leads_of (g.R.RuleSet.instance c.args._rules.now)) (λ q s p ps qs l m. g.met.R.RuleSet.one_way c.args._rules.now (task_of q) s p ps qs l.0 m.0)

@@ -1,5 +1,4 @@
-use Rattle.jd_first_oblig.specs.Obligations.{obligation_of}
-use Rattle.jdl.specs.Answers.{leads_of}
+use Rattle.jdl.specs.Answers.{task_of, leads_of}
 use Rattle.jdl.specs.Words.{word_texts}
 use Rattle.jdl.specs.declared.status.Status.TheVariants.{Done, NotAccepted, RefusedSource, RefusedScript, Limit}
 use Rattle.jdl.proofs.Outcomes.{answered_so, answer_done, answer_not_accepted, answer_refused_source, answer_refused_script, answer_limit}
@@ -11,7 +10,7 @@ returns-in-Ok-clause-accepted g c = λ is told.
 
 pub returns-in-Ok-clause-not_accepted : goal.returns-in-Ok-clause-not_accepted
 returns-in-Ok-clause-not_accepted g c = λ is told.
-    answer_not_accepted (leads_of (g.R.RuleSet.instance c.args.rules.now)) (λ q s p ps qs l m. g.met.R.RuleSet.one_way c.args.rules.now (record { obligation = obligation_of q }) s p ps qs l.0 m.0) (word_texts c.args.words.now) (g.L.Library.contents c.args.library.now) _ _ (c.in-Ok.ensures.answer told) (answered_so _ _ NotAccepted c.write_answer.ensures.either (λ e. cc) is)
+    answer_not_accepted (leads_of (g.R.RuleSet.instance c.args.rules.now)) (λ q s p ps qs l m. g.met.R.RuleSet.one_way c.args.rules.now (task_of q) s p ps qs l.0 m.0) (word_texts c.args.words.now) (g.L.Library.contents c.args.library.now) _ _ (c.in-Ok.ensures.answer told) (answered_so _ _ NotAccepted c.write_answer.ensures.either (λ e. cc) is)
 
 pub returns-in-Ok-clause-refused_source : goal.returns-in-Ok-clause-refused_source
 returns-in-Ok-clause-refused_source g c = λ is told.
