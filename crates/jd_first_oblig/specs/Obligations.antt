@@ -5,7 +5,7 @@ use Rattle.jd_syntax.specs.Names.{Name, Declared}
 use Rattle.jd_syntax.specs.Codes.{OfClass, Expr, IntLiteral, Variable, Catch, Frame, Return, PlainCode, Done, Then}
 use Rattle.jd_term.specs.declared.formula.Modality.TheVariants.{Possibility}
 use Rattle.jd_term.specs.Terms.{PlainTerm, Number, Boolean, NullTerm, ProgramVariable, Constant, Select, CreatedField, AllLocations}
-use Rattle.jd_term.specs.Formulas.{PlainFormula, TrueFormula, Not, And, Implies, Equal as SameTerm, Less as LessTerm, LessOrEqual as LessOrSame, Updated, Modal, InInt, WellFormed, IsInstance, Pairs}
+use Rattle.jd_term.specs.Formulas.{PlainFormula, Not, Implies, Equal as SameTerm, Less as LessTerm, LessOrEqual as LessOrSame, Updated, Modal, InInt, WellFormed, IsInstance, Pairs}
 use Rattle.jd_model.specs.Conjunctions.{conjunction}
 use Rattle.jd_model.specs.Sequents.{PlainSequent}
 use Rattle.jd_model.specs.ContractForms.{PlainCase, PlainBody, PlainContracts}

@@ -67,9 +67,7 @@ fn a_rule_is_applied(rt: HostRuntime) -> Result<(), Fail> {
     let third = FirstRules.apply(alloc, &task, &sequent, &close_true(alloc, 3)?);
     assert!(rt; matches!(third, Err(Bad::NoFormula)));
     let mut given = close_true(alloc, 2)?;
-    given
-        .insts
-        .push((copy_bytes(alloc, b"n")?, Sx::Atom(copy_bytes(alloc, b"1")?)))?;
+    given.insts.push((copy_bytes(alloc, b"n")?, Sx::Atom(copy_bytes(alloc, b"1")?)))?;
     let given = FirstRules.apply(alloc, &task, &sequent, &given);
     assert!(rt; matches!(given, Err(Bad::BadInst)));
     Ok(())
