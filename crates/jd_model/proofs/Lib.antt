@@ -29,3 +29,17 @@ pub mod NewObjects
 pub mod ValueExamples
 pub mod AllocationExamples
 pub mod ControlExamples
+pub mod AssignedVariables
+pub mod InnermostFocus
+pub mod LoopRuns
+pub mod MarkedTurns
+pub mod RightRows
+pub mod UpdatePlaces
+pub mod BodyTables
+pub mod NumberedNames
+pub mod KeptByCode
+pub mod ResolvedRuns
+pub mod ResolvedEnds
+pub mod SimpleExpressions
+pub mod GivenNames
+pub mod WellFormedKept

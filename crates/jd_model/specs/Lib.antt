@@ -28,3 +28,10 @@ pub mod Sequents
 pub mod Examples
 pub mod AllocationExamples
 pub mod ControlExamples
+pub mod AssignedVariables
+pub mod InnermostFocus
+pub mod UpdatePlaces
+pub mod NumberedNames
+pub mod BodyTables
+pub mod ResolvedBodies
+pub mod SimpleExpressions

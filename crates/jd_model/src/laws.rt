@@ -1,4 +1,6 @@
+ghost use Rattle.jd_model.specs.ResolvedBodies.{ResolvedBodiesAssignNoHeap, ResolvedBodiesEnd};
 ghost use Rattle.jd_model.specs.Laws.{MoreGivesTheSame, AreStable, MayBeTaken, AreCoincident, AreReplaceable, AreSubstituted, AreRenamed, FocusDecides, CreatedStays};
+ghost use Rattle.jd_model.specs.UpdatePlaces.{UpdatePlacesArePlaces};
 
 /// More depth of calls or turns of loops give the same outcome of a run that is over.
 pub fn more_gives_the_same()
@@ -43,4 +45,19 @@ pub fn focus_decides()
 /// What is created stays created in a run.
 pub fn created_stays()
     ensures { CreatedStays }
+{}
+
+/// What is reached through bodies of updates alone is what stands at the place.
+pub fn update_places_are_places()
+    ensures { UpdatePlacesArePlaces }
+{}
+
+/// Runs of resolved bodies end as methods do, and from an entry state no array has a bad length.
+pub fn resolved_bodies_end()
+    ensures { ResolvedBodiesEnd }
+{}
+
+/// Resolved bodies assign no heap variable.
+pub fn resolved_bodies_assign_no_heap()
+    ensures { ResolvedBodiesAssignNoHeap }
 {}

@@ -19,7 +19,8 @@ pub use examples::{
 };
 pub use laws::{
     are_coincident, are_renamed, are_replaceable, are_stable, are_substituted, created_stays,
-    focus_decides, may_be_taken, more_gives_the_same,
+    focus_decides, may_be_taken, more_gives_the_same, resolved_bodies_assign_no_heap,
+    resolved_bodies_end, update_places_are_places,
 };
 pub use places::{at, formula_numbered, formulas_on};
 pub use put::{copy_formulas, put_at_place, replace_at};

@@ -1,2 +1,4 @@
 pub mod Preorder
 pub mod Scripts
+pub mod Freshness
+pub mod RulesBelowUpdates

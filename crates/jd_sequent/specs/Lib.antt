@@ -5,3 +5,4 @@ pub mod Rules
 pub mod Steps
 pub mod Trees
 pub mod TaskMeaning
+pub mod Freshness

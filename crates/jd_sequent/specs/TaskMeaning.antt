@@ -48,6 +48,10 @@ pub record TaskStandsFor (t : PlainTask) (p : SpecifiedProgram) (c : Case) : Typ
   pub variables : All (λ (v : Declared). is_special v.name ≡ false) t.obligation.vars
   pub loops : All (LoopIsKnown t.obligation) t.obligation.loops
 
--- where the contracts are usable and all premises are valid, the sequent is valid
+-- in a program, for one of its cases: where the contracts are usable and all premises are valid, the sequent is valid
+abbrev pub StepIsSoundIn : SpecifiedProgram → Case → PlainSequent → List PlainSequent → Type 0
+StepIsSoundIn p c s ps = (d : ℕ) (m : ℤ) → Usable p c.family d m → AllValid p.setting d m ps → Valid p.setting d m s
+
+-- and in each program that the task's tables stand for
 abbrev pub StepIsSound : PlainTask → PlainSequent → List PlainSequent → Type 0
-StepIsSound t s ps = (p : SpecifiedProgram) (c : Case) → TaskStandsFor t p c → (d : ℕ) (m : ℤ) → Usable p c.family d m → AllValid p.setting d m ps → Valid p.setting d m s
+StepIsSound t s ps = (p : SpecifiedProgram) (c : Case) → TaskStandsFor t p c → StepIsSoundIn p c s ps
