@@ -1,0 +1,12 @@
+pub mod NewNames
+pub mod LoopReads
+pub mod LoopStates
+pub mod LoopSound
+pub mod LoopFresh
+pub mod LoopStep
+pub mod CountingLoop
+pub mod NewNameInForm
+pub mod CountingNumbers
+pub mod CountingValid
+pub mod CountingStands
+pub mod LoopPremises
