@@ -1,0 +1,9 @@
+pub mod Calls
+pub mod After
+pub mod Sites
+pub mod Use
+pub mod Dispatch
+pub mod NewObject
+pub mod Operands
+pub mod Steps
+pub mod RecursiveCall

@@ -1,0 +1,7 @@
+pub mod Methods
+pub mod Calls
+pub mod Premises
+pub mod UseContract
+pub mod NewObject
+pub mod Laws
+pub mod RecursiveCall

@@ -1,0 +1,55 @@
+-- The instances of `useContract`.
+use Rattle.std.specs.Prelude.{Bool, List, None, Option, Some, false, map, true, ◌≡◌, ◌∷◌, ◌&&◌, ◌==◌, ℕ, [], if◌then◌else◌}
+use Rattle.std.specs.List.{list_any}
+use Rattle.jd_call.specs.Calls.{CallFits, FocusedCall, IsAtFocus, called_class, called_method, formula_of, parameters_of, target_kind}
+use Rattle.jd_call.specs.Methods.{PlainMethods}
+use Rattle.jd_call.specs.Premises.{call_constants, call_premises, call_variables}
+use Rattle.jd_model.specs.ContractForms.{PlainBody, PlainCase}
+use Rattle.jd_model.specs.Occurrences.{AllOf}
+use Rattle.jd_model.specs.Places.{put_at}
+use Rattle.jd_model.specs.Sequents.{PlainPlace, PlainSequent}
+use Rattle.jd_model.specs.Tables.{body_in}
+use Rattle.jd_model.specs.UpdatePlaces.{IsUpdatePlace}
+use Rattle.jd_sequent.specs.Freshness.{IsNewConstant, IsNewVariable}
+use Rattle.jd_sequent.specs.Obligations.{PlainTask}
+use Rattle.jd_syntax.specs.CodeNames.{named_in_code}
+use Rattle.jd_syntax.specs.Names.{Name}
+use Rattle.jd_term.specs.declared.formula.Modality.{Modality}
+use Rattle.jd_term.specs.declared.formula.Modality.TheVariants as modalities
+
+-- the row of a case by its class, its method and its number
+abbrev pub case_in : List PlainCase → ℕ → ℕ → ℕ → Option PlainCase
+case_in [] class method number = None
+case_in (f ∷ fs) class method number = if (f.class == class && f.method == method) && f.number == number then Some f else case_in fs class method number
+
+-- in a diamond the case's run ends, and the task's family reaches the callee's
+abbrev pub MayCall : Modality → PlainCase → Bool → Type 0
+MayCall modalities.Necessity f reached = Unit {0}
+MayCall modalities.Possibility f reached = (f.diverges ≡ false) × (reached ≡ true)
+
+-- in a diamond, where each family reaches the other
+abbrev pub is_in_cluster : Modality → Bool → Bool → Bool
+is_in_cluster modalities.Necessity reached back = false
+is_in_cluster modalities.Possibility reached back = reached && back
+
+-- a variable stands in no body
+abbrev pub IsInNoBody : PlainTask → Name → Type 0
+IsInNoBody t x = list_any (λ (b : PlainBody). named_in_code x b.code) t.contracts.bodies ≡ false
+
+-- at the place stands a modality, and at its innermost focus a call with simple operands; of the called method there is a
+-- case of this number; the names of step n are new; the premises are the sequent with each of the premises' formulas at the
+-- place
+pub record UseContractInstance (methods : PlainMethods) (t : PlainTask) (s : PlainSequent) (place : PlainPlace) (number n : ℕ) (premises : List PlainSequent) : Type 0 where
+  pub call : FocusedCall
+  pub at_place : IsUpdatePlace s place (formula_of call)
+  pub at_focus : IsAtFocus call
+  pub body : PlainBody
+  pub body_found : body_in t.contracts.bodies (called_method call.target) ≡ Some body
+  pub fits : CallFits methods call (parameters_of (target_kind call.target) body)
+  pub case : PlainCase
+  pub case_found : case_in t.contracts.cases (called_class methods call.target) (called_method call.target) number ≡ Some case
+  pub permitted : MayCall call.modality case (methods.reaches (methods.family t.obligation.method) (methods.family (called_method call.target)))
+  pub variables_new : AllOf (IsNewVariable s) (call_variables n)
+  pub in_no_body : AllOf (IsInNoBody t) (call_variables n)
+  pub constants_new : AllOf (IsNewConstant t.obligation s) (call_constants (methods.result (called_method call.target)) n)
+  pub premises_are : premises ≡ map (put_at s place) (call_premises case (parameters_of (target_kind call.target) body) (methods.result (called_method call.target)) call.target call.operands n call.modality call.context call.after methods.null_pointer call.into (is_in_cluster call.modality (methods.reaches (methods.family t.obligation.method) (methods.family (called_method call.target))) (methods.reaches (methods.family (called_method call.target)) (methods.family t.obligation.method))))
