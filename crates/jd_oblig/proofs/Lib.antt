@@ -1,0 +1,10 @@
+pub mod Members
+pub mod Starts
+pub mod Results
+pub mod Exits
+pub mod Layers
+pub mod Links
+pub mod OneCase
+pub mod IdentityExample
+pub mod ClosedTasks
+pub mod SkipExample
