@@ -7,3 +7,5 @@ pub mod NewObject
 pub mod Operands
 pub mod Steps
 pub mod RecursiveCall
+pub mod Determined
+pub mod WrittenAllocations

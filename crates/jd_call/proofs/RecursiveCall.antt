@@ -12,7 +12,8 @@ use Rattle.jd_sequent.specs.TaskMeaning.{LoopIsKnown}
 use Rattle.jd_base.specs.declared.sort.Sort.TheVariants.{Int as IntSort}
 use Rattle.jd_call.proofs.Steps.{use_contract_sound}
 use Rattle.jd_call.specs.Calls.{VirtualTarget}
-use Rattle.jd_call.specs.Methods.{CallsAreResolved, CaseFor, HasReceiver, MethodOfCase, MethodsStandFor, ReceiverVariable}
+use Rattle.jd_call.specs.Methods.{MethodOfCase, MethodsStandFor}
+use Rattle.jd_call.specs.ResolvedCalls.{CallsAreResolved, CaseFor, HasReceiver, ReceiverVariable}
 use Rattle.jd_call.specs.RecursiveCall.{RecursiveCallIsSound, an_int, at_least_zero, call, call_place, call_sequent, call_task, goal, int_result, method_with, methods, n_constant, only_first, program_in, return_x, the_class, this, written_premises, x, y, zero_body, zero_body_row, zero_case, zero_contract, zero_row, zero_variables}
 use Rattle.jd_call.specs.UseContract.{UseContractInstance}
 use Rattle.jd_heap.specs.Heaps.{Heap}
@@ -218,7 +219,7 @@ module _ (classes : Program) where
 
 pub recursive_call_is_sound : RecursiveCallIsSound
 recursive_call_is_sound = record {
-  instance_ = written;
+  written = written;
   bodies = bodies_leave_heap;
   task = task;
   tables = tables;

@@ -10,9 +10,10 @@ use Rattle.jd_call.proofs.Sites.{Site}
 use Rattle.jd_call.proofs.Use.{NullFor, OldConstant, OldVariable, UseOk, use_box, use_diamond}
 use Rattle.jd_call.specs.Calls.{ConstructorTarget, FocusedCall, OperandsAreSimple, StaticTarget, Target, VirtualTarget, call_of, call_stmt, called_class, called_method, formula_of, parameters_of, target_kind}
 use Rattle.jd_call.specs.Laws.{NewObjectIsSound, UseContractIsSound}
-use Rattle.jd_call.specs.Methods.{CallsAreResolved, IsKindOf, IsResultSort, MethodOfCase, MethodsStandFor, PlainMethods}
+use Rattle.jd_call.specs.Methods.{IsKindOf, IsResultSort, MethodOfCase, MethodsStandFor, PlainMethods}
 use Rattle.jd_call.specs.NewObject.{Allocation, ArrayOf, LengthIsSimple, ObjectOf, alloc_stmt, allocation_premise, object_constant}
 use Rattle.jd_call.specs.Premises.{call_constants, call_premises, call_variables, entry_premise, null_premises}
+use Rattle.jd_call.specs.ResolvedCalls.{CallsAreResolved}
 use Rattle.jd_call.specs.UseContract.{MayCall, UseContractInstance, is_in_cluster}
 use Rattle.jd_heap.specs.Values.{IntValue, RefValue}
 use Rattle.jd_model.proofs.BodyTables.{bodies_assign_no_heap}

@@ -1,7 +1,8 @@
--- The laws of the rules: each instance is a sound step.
-use Rattle.std.specs.Prelude.{List, ℕ}
-use Rattle.jd_call.specs.Methods.{CallsAreResolved, MethodsStandFor, PlainMethods}
+-- The laws of the rules: each instance is a sound step, and its premises are determined.
+use Rattle.std.specs.Prelude.{List, ◌≡◌, ℕ}
+use Rattle.jd_call.specs.Methods.{MethodsStandFor, PlainMethods}
 use Rattle.jd_call.specs.NewObject.{NewObjectInstance}
+use Rattle.jd_call.specs.ResolvedCalls.{CallsAreResolved}
 use Rattle.jd_call.specs.UseContract.{UseContractInstance}
 use Rattle.jd_model.specs.BodyTables.{BodiesAssignNoHeap}
 use Rattle.jd_model.specs.Cases.{Case, SpecifiedProgram}
@@ -16,3 +17,10 @@ UseContractIsSound = (methods : PlainMethods) (t : PlainTask) → BodiesAssignNo
 
 abbrev pub NewObjectIsSound : Type 0
 NewObjectIsSound = (t : PlainTask) (s : PlainSequent) (place : PlainPlace) (n : ℕ) (premises : List PlainSequent) → NewObjectInstance t s place n premises → StepIsSound t s premises
+
+-- the premises are determined by the place, the number of the case and the number of the step
+abbrev pub UseContractIsDetermined : Type 0
+UseContractIsDetermined = (methods : PlainMethods) (t : PlainTask) (s : PlainSequent) (place : PlainPlace) (number n : ℕ) (ps qs : List PlainSequent) → UseContractInstance methods t s place number n ps → UseContractInstance methods t s place number n qs → ps ≡ qs
+
+abbrev pub NewObjectIsDetermined : Type 0
+NewObjectIsDetermined = (t : PlainTask) (s : PlainSequent) (place : PlainPlace) (n : ℕ) (ps qs : List PlainSequent) → NewObjectInstance t s place n ps → NewObjectInstance t s place n qs → ps ≡ qs

@@ -1,7 +1,8 @@
 -- A method that calls itself, and the use of its contract at that call as it is written.
 use Rattle.std.specs.Prelude.{List, None, Option, Some, codes, false, nat_eq, pos, suc, true, zero, ◌≡◌, ◌∷◌, ◌==◌, ℕ, [], if◌then◌else◌}
 use Rattle.jd_base.specs.declared.sort.Sort.TheVariants.{Bool as BoolSort, Heap as HeapSort, Int as IntSort, Ref as RefSort}
-use Rattle.jd_call.specs.Methods.{CallsAreResolved, InstanceMethod, MethodsStandFor, PlainMethods}
+use Rattle.jd_call.specs.Methods.{InstanceMethod, MethodsStandFor, PlainMethods}
+use Rattle.jd_call.specs.ResolvedCalls.{CallsAreResolved}
 use Rattle.jd_call.specs.UseContract.{UseContractInstance}
 use Rattle.jd_model.specs.BodyTables.{BodiesAssignNoHeap}
 use Rattle.jd_model.specs.Cases.{AnyEnd, Case, Contract, DeclaredType, Ordinary, SpecifiedProgram}
@@ -271,7 +272,7 @@ program_in classes = record {
 -- the written step is an instance; the task's tables stand for a program in any tables of classes with no class below this
 -- one, so that all conditions of the law can be met together; and the step is sound
 pub record RecursiveCallIsSound : Type 0 where
-  pub instance_ : UseContractInstance methods call_task call_sequent call_place 1 1 written_premises
+  pub written : UseContractInstance methods call_task call_sequent call_place 1 1 written_premises
   pub bodies : BodiesAssignNoHeap call_task.contracts
   pub task : (classes : Program) → TaskStandsFor call_task (program_in classes) zero_case
   pub tables : (classes : Program) → MethodsStandFor methods (program_in classes)

@@ -14,6 +14,7 @@ use Rattle.jd_sequent.specs.Freshness.{IsNewConstant, IsNewVariable}
 use Rattle.jd_sequent.specs.Obligations.{PlainTask}
 use Rattle.jd_syntax.specs.CodeNames.{named_in_code}
 use Rattle.jd_syntax.specs.Names.{Name}
+use Rattle.jd_term.specs.Formulas.{PlainFormula}
 use Rattle.jd_term.specs.declared.formula.Modality.{Modality}
 use Rattle.jd_term.specs.declared.formula.Modality.TheVariants as modalities
 
@@ -36,6 +37,26 @@ is_in_cluster modalities.Possibility reached back = reached && back
 abbrev pub IsInNoBody : PlainTask → Name → Type 0
 IsInNoBody t x = list_any (λ (b : PlainBody). named_in_code x b.code) t.contracts.bodies ≡ false
 
+-- the task's family reaches the callee's, and that reaches the task's
+module _ (methods : PlainMethods) (t : PlainTask) (c : FocusedCall) where
+  abbrev pub caller_family : ℕ
+  caller_family = methods.family t.obligation.method
+
+  abbrev pub callee_family : ℕ
+  callee_family = methods.family (called_method c.target)
+
+  abbrev pub reaches_callee : Bool
+  reaches_callee = methods.reaches caller_family callee_family
+
+  abbrev pub callee_reaches : Bool
+  callee_reaches = methods.reaches callee_family caller_family
+
+-- the premises' formulas of step n, for the call's body and case
+abbrev pub premises_of : PlainMethods → PlainTask → FocusedCall → PlainBody → PlainCase → ℕ → List PlainFormula
+premises_of methods t c b f n =
+    call_premises f (parameters_of (target_kind c.target) b) (methods.result (called_method c.target)) c.target c.operands n
+    c.modality c.context c.after methods.null_pointer c.into (is_in_cluster c.modality (reaches_callee methods t c) (callee_reaches methods t c))
+
 -- at the place stands a modality, and at its innermost focus a call with simple operands; of the called method there is a
 -- case of this number; the names of step n are new; the premises are the sequent with each of the premises' formulas at the
 -- place
@@ -48,8 +69,8 @@ pub record UseContractInstance (methods : PlainMethods) (t : PlainTask) (s : Pla
   pub fits : CallFits methods call (parameters_of (target_kind call.target) body)
   pub case : PlainCase
   pub case_found : case_in t.contracts.cases (called_class methods call.target) (called_method call.target) number ≡ Some case
-  pub permitted : MayCall call.modality case (methods.reaches (methods.family t.obligation.method) (methods.family (called_method call.target)))
+  pub permitted : MayCall call.modality case (reaches_callee methods t call)
   pub variables_new : AllOf (IsNewVariable s) (call_variables n)
   pub in_no_body : AllOf (IsInNoBody t) (call_variables n)
   pub constants_new : AllOf (IsNewConstant t.obligation s) (call_constants (methods.result (called_method call.target)) n)
-  pub premises_are : premises ≡ map (put_at s place) (call_premises case (parameters_of (target_kind call.target) body) (methods.result (called_method call.target)) call.target call.operands n call.modality call.context call.after methods.null_pointer call.into (is_in_cluster call.modality (methods.reaches (methods.family t.obligation.method) (methods.family (called_method call.target))) (methods.reaches (methods.family (called_method call.target)) (methods.family t.obligation.method))))
+  pub premises_are : premises ≡ map (put_at s place) (premises_of methods t call body case n)
