@@ -2,12 +2,12 @@ ghost use Rattle.std.specs.Prelude.{IfOk};
 ghost use Rattle.jd_first_java.specs.Reads.{operand_view};
 ghost use Rattle.jd_first_oblig.specs.Obligations.{IsLiteralInRange};
 
-use crate::{name_of, obligation};
+use crate::{contracts, name_of, obligation};
 use jd_base::{ClassId, MethodId, NoMemory, Sort, copy_bytes};
 use jd_first_java::{Comparison, Condition, Operand, Program};
 use jd_sequent::Obligation;
 use jd_syntax::{Code, CodeExpr, CodeStmt, Kind, VarId};
-use jd_term::{ConstId, Elementary, Formula, Modality, Term, Update};
+use jd_term::{ConstId, Elementary, Formula, Loc, Modality, Term, Update};
 use std::alloc::Global;
 use std::test::Fail;
 
@@ -239,5 +239,28 @@ fn obligations_are_named(rt: HostRuntime) -> Result<(), Fail> {
         assert_eq!(rt; made.consts[i].name.as_slice(), consts[i].0);
         assert_eq!(rt; made.consts[i].sort, consts[i].1);
     }
+    Ok(())
+}
+
+#[test]
+fn tables_have_the_case(rt: HostRuntime) -> Result<(), Fail> {
+    let alloc = rt.alloc();
+    let made = contracts(alloc, &seven(alloc)?)?;
+    assert_eq!(rt; made.invariants.len(), 0);
+    assert_eq!(rt; made.cases.len(), 1);
+    let case = &made.cases[0];
+    assert_eq!(rt; case.class, ClassId(10));
+    assert_eq!(rt; case.method, MethodId(0));
+    assert_eq!(rt; case.number, 1);
+    assert!(rt; !case.diverges && matches!(case.frame, Loc::AllLocations));
+    assert_eq!(rt; case.entry.len(), 1);
+    assert!(rt; case.entry[0].equals(&well_formed(alloc)?));
+    assert_eq!(rt; case.exit.len(), 2);
+    let range = Formula::InInt(var(alloc, b"@ires", Sort::Int)?);
+    assert!(rt; case.exit[0].equals(&range));
+    assert_eq!(rt; case.exceptional.len(), 2);
+    assert_eq!(rt; made.bodies.len(), 1);
+    assert_eq!(rt; made.bodies[0].params, 0);
+    assert_eq!(rt; made.bodies[0].result, Some(Sort::Int));
     Ok(())
 }
