@@ -5,7 +5,7 @@ ghost use Rattle.jd_replay.specs.TestRules.{premises_at, no_cause, one_way, few}
 
 use crate::{Cause, Verdict, replay};
 use jd_base::{ClassId, MethodId, NoMemory};
-use jd_model::{Place, Sequent, Side};
+use jd_model::{Contracts, Place, Sequent, Side};
 use jd_sequent::{Bad, Obligation, RuleSet, ScriptNode, ScriptTree, Step, Task, one_tree};
 use jd_term::Formula;
 use std::alloc::{AllocError, Global};
@@ -168,9 +168,12 @@ fn words(alloc: Global, verdict: &Verdict) -> Result<String, AllocError> {
 fn scripts_are_replayed(rt: HostRuntime) -> Result<(), Fail> {
     let alloc = rt.alloc();
     let obligation = obligation(alloc);
-    let task = Task {
-        obligation: &obligation,
+    let contracts = Contracts {
+        cases: Vec::new(alloc),
+        invariants: Vec::new(alloc),
+        bodies: Vec::new(alloc),
     };
+    let task = Task::of(&contracts, &obligation);
     let goal = goal(alloc)?;
     for (told, want) in [
         ([(b'L', 0)].as_slice(), "closed 1"),
