@@ -1,0 +1,3 @@
+pub mod SortedUpdates
+pub mod UpdateLaws
+pub mod PushedExamples
