@@ -36,7 +36,8 @@ use Rattle.jd_model.proofs.Writes.{read_own}
 use Rattle.jd_oblig.specs.CaseObligations.{modality_of, measure_members, entry_formula, receiver_pairs, parameter_pair, start_pairs, run_code, invariant_members, frame_members, exit_members, exit_formula, result_name}
 use Rattle.jd_oblig.specs.KeptByObligations.{IsObligationOf, sort_of_result}
 use Rattle.jd_oblig.proofs.Members.{conj_true, conj_parts, front_true, back_true, join_true}
-use Rattle.jd_oblig.proofs.Starts.{reads_given, sorted_by, updated_parameters, updated_receiver, same_write, start_unthrown, run_unthrown}
+use Rattle.jd_model.proofs.GivenNames.{reads_given}
+use Rattle.jd_oblig.proofs.Starts.{sorted_by, updated_parameters, updated_receiver, same_write, start_unthrown, run_unthrown}
 use Rattle.jd_oblig.proofs.Results.{around, around_over, ends_over, same_end, seen, default_result, default_heap, default_thrown, given_result, given_heap, given_thrown, caught_heap}
 
 abbrev first : List Value → Value

@@ -11,7 +11,6 @@ use Rattle.jd_model.specs.SpecialNames.{receiver, thrown_variable}
 use Rattle.jd_model.specs.States.{State, read, write, with_heap, empty_state}
 use Rattle.jd_model.proofs.States.{read-write, read-none, state_same}
 use Rattle.jd_model.specs.Programs.{Program, ValueType, IntType, BooleanType, ReferenceType, Body, type_sort}
-use Rattle.jd_model.specs.Outcomes.{Outcome}
 use Rattle.jd_model.specs.Runs.{with_one, with_values, exec_at}
 use Rattle.jd_model.specs.TermValues.{updated}
 use Rattle.jd_model.specs.Truth.{Setting}
@@ -22,25 +21,14 @@ use Rattle.jd_model.specs.EntryExit.{AreOf, is_of}
 use Rattle.jd_model.specs.KeptCases.{start_state}
 use Rattle.jd_model.specs.Tables.{parameter_constant, constants_of_parameters, SortsOf}
 use Rattle.jd_model.specs.ResolvedBodies.{NotSpecial, IsResolved}
-use Rattle.jd_model.proofs.Writes.{apart_by, read_own, read_other, read_there}
-use Rattle.jd_model.proofs.Coincidence.{Alike, OutcomesAgree, normal, broke, returned, thrown, stopped, no_length, not_ended, by_writes, exec_at_agree}
+use Rattle.jd_model.proofs.Writes.{apart_by, read_other, read_there}
+use Rattle.jd_model.proofs.Coincidence.{exec_at_agree}
+use Rattle.jd_model.proofs.GivenNames.{Sorted}
+use Rattle.jd_model.proofs.MarkedTurns.{Has, has_alike, has_any, has_end}
 use Rattle.jd_model.proofs.Wider.{code_wider}
 use Rattle.jd_oblig.specs.CaseObligations.{receiver_pairs, parameter_pair}
 
 -- ---- names that are given values
-
--- values of the names' sorts
-abbrev pub Sorted : List Name → List Value → Type 0
-Sorted [] [] = Unit {0}
-Sorted (x ∷ xs) (v ∷ vs) = IsOf x.sort v × Sorted xs vs
-Sorted xs vs = ⊥
-
--- what was given is read back
-pub reads_given : (i : State) (xs : List Name) (vs : List Value) → AllApart xs → Sorted xs vs → map (read (with_values i xs vs)) xs ≡ vs
-reads_given i [] [] a o = refl
-reads_given i (x ∷ xs) (v ∷ vs) a o = λ e. (read_other (write i x v) xs vs x a.0 ∙ read_own i x v o.0) e ∷ reads_given (write i x v) xs vs a.1 o.1 e
-reads_given i [] (v ∷ vs) a o = absurd o
-reads_given i (x ∷ xs) [] a o = absurd o
 
 typed_sort : (g : Setting) (h : Heap) (t : ValueType) (nullable : Bool) (v : Value) → is_of g h (record { type = t; nullable = nullable }) v ≡ true → IsOf (type_sort t) v
 typed_sort g h IntType nl (IntValue z) e = tt
@@ -96,27 +84,6 @@ start_unthrown b o h r vs =
     ∙ receiver_kept (with_heap empty_state h) b.receiver (RefValue r) o.receiver
     ∙ read_there empty_state heap_name (HeapValue h) thrown_variable thrown_not_heap
     ∙ read-none thrown_variable
-
--- one state, in which a variable has a value
-abbrev Has : Name → Value → State → State → Type 0
-Has x v s t = (s ≡ t) × (read s x ≡ v)
-
-has_alike : (x : Name) (v : Value) → But x heap_name → Alike Always (But x) (Has x v)
-has_alike x v heap_in = by_writes Always (But x) (Has x v) (λ y o s t h. ap (λ z. read z y) h.0)
-    (λ y o u s t h. (ap (λ z. write z y u) h.0, read_there s y u x o ∙ h.1))
-    tt heap_in
-
-has_any : (x : Name) (v : Value) → But x heap_name → (k : Heap) (s t : State) → Has x v s t → Has x v (with_heap s k) (with_heap t k)
-has_any x v heap_in k s t h = (has_alike x v heap_in).writes heap_name heap_in (HeapValue k) s t h
-
-has_end : {A : Type 0} (x : Name) (v : Value) {o q : Outcome A} → OutcomesAgree (Has x v) o q → AtEnd o (λ z. read z x ≡ v)
-has_end x v (normal h) = h.1
-has_end x v (broke h) = h.1
-has_end x v (returned h) = h.1
-has_end x v (thrown h) = h.1
-has_end x v (stopped h) = h.1
-has_end x v no_length = tt
-has_end x v not_ended = tt
 
 pub run_unthrown : (p : Program) (b : Body) → IsResolved b → (d n : ℕ) (s : State) → read s thrown_variable ≡ RefValue Null → AtEnd (exec_at p d n b.code s) (λ t. read t thrown_variable ≡ RefValue Null)
 run_unthrown p b o d n s e =

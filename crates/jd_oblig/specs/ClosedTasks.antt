@@ -1,21 +1,13 @@
--- Proof trees of sound steps, and that every case is kept where such a tree closes its obligation.
-use Rattle.std.specs.Prelude.{◌≡◌, ℕ, Some, List, []}
+-- That every case is kept where sound steps close its obligation.
+use Rattle.std.specs.Prelude.{◌≡◌, ℕ, Some, []}
 use Rattle.jd_model.specs.Sequents.{PlainSequent}
 use Rattle.jd_model.specs.Cases.{Case, SpecifiedProgram}
 use Rattle.jd_model.specs.ContractForms.{PlainContracts}
 use Rattle.jd_model.specs.KeptCases.{Kept}
 use Rattle.jd_model.specs.ResolvedBodies.{AllResolved}
 use Rattle.jd_model.specs.Tables.{TablesStandFor}
-use Rattle.jd_sequent.specs.Trees.{PlainStep, ProofTree}
-use Rattle.jd_sequent.specs.Derives.{Derives}
 use Rattle.jd_sequent.specs.TaskMeaning.{StepIsSoundIn}
 use Rattle.jd_oblig.specs.KeptByObligations.{IsMadeOfRow, IsReachability}
-
--- where each step is sound for a case, so is each whole derivation, as one step from its goals
-abbrev pub DerivationsAreSound : SpecifiedProgram → Case → (PlainSequent → PlainStep → List PlainSequent → Type 0) → Type 0
-DerivationsAreSound p c leads =
-    ((s : PlainSequent) (step : PlainStep) (ps : List PlainSequent) → leads s step ps → StepIsSoundIn p c s ps)
-    → (tree : ProofTree) (s : PlainSequent) (goals : List PlainSequent) → Derives leads tree s goals → StepIsSoundIn p c s goals
 
 -- where tables stand for a program, the obligation of each case is made of its row, and a derivation leaves no goal of it
 abbrev pub EveryClosedCaseIsKept : Type 0

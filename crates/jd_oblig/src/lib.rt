@@ -1,16 +1,11 @@
 //! The obligation of each case, and that valid obligations carry the contracts.
 #![tactic(auto)]
 
-ghost use Rattle.jd_model.specs.Cases.{Case, SpecifiedProgram};
-ghost use Rattle.jd_sequent.specs.Obligations.{task_view};
-ghost use Rattle.jd_sequent.specs.Rules.{LeadsWithinLimits};
 ghost use Rattle.jd_oblig.specs.CallGraphs.{CallsGiveReachability};
-ghost use Rattle.jd_oblig.specs.ClosedTasks.{DerivationsAreSound, EveryClosedCaseIsKept};
+ghost use Rattle.jd_oblig.specs.ClosedTasks.{EveryClosedCaseIsKept};
 ghost use Rattle.jd_oblig.specs.IdentityExample.{IdentityIsKept};
 ghost use Rattle.jd_oblig.specs.KeptByObligations.{EveryCaseIsKept, ObligationsCarry, RowsMakeObligations};
 ghost use Rattle.jd_oblig.specs.SkipExample.{SkipIsKept};
-
-use jd_sequent::{RuleSet, Task};
 
 /// What is made of the row of tables that stand for a program is the obligation of the row's case.
 pub fn rows_make_obligations()
@@ -30,11 +25,6 @@ pub fn every_case_is_kept()
 /// A test that decides which families the calls reach gives the order in which cases are proved.
 pub fn calls_give_reachability()
     ensures { CallsGiveReachability }
-{}
-
-/// Where each step of a rule set is sound for a case, each derivation is: its sequent is valid where its goals are.
-pub fn derivations_are_sound<R: RuleSet>(rules: &R, task: &Task<'_>)
-    ensures { (p : SpecifiedProgram) (c : Case) → DerivationsAreSound p c (LeadsWithinLimits (R.instance rules.now (task_view task.now))) }
 {}
 
 /// Where the obligation of each case is closed by sound steps, every case is kept.

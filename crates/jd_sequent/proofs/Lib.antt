@@ -2,3 +2,4 @@ pub mod Preorder
 pub mod Scripts
 pub mod Freshness
 pub mod RulesBelowUpdates
+pub mod SoundDerivations

@@ -6,3 +6,4 @@ pub mod Steps
 pub mod Trees
 pub mod TaskMeaning
 pub mod Freshness
+pub mod SoundDerivations

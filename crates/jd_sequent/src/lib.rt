@@ -2,6 +2,7 @@
 #![tactic(auto)]
 
 mod bad;
+mod laws;
 mod limits;
 mod obligation;
 mod rule;
@@ -11,6 +12,7 @@ mod tests;
 
 pub use bad::Bad;
 pub use jd_model::{BodyForm, CaseForm, Contracts, InvForm, Node, Place, Sequent, Side};
+pub use laws::derivations_are_sound;
 pub use limits::is_within_limits;
 pub use obligation::{LoopForm, Obligation, Task};
 pub use rule::RuleSet;

@@ -4,6 +4,7 @@ ghost use Rattle.jd_sequent.specs.Trees.{PlainStep};
 ghost use Rattle.jd_sequent.specs.Steps.{step_view};
 ghost use Rattle.jd_sequent.specs.Obligations.{PlainTask, task_view};
 ghost use Rattle.jd_sequent.specs.Rules.{IsCaused, LeadsWithinLimits};
+ghost use Rattle.jd_sequent.specs.TaskMeaning.{StepIsSound};
 
 use crate::bad::Bad;
 use crate::obligation::Task;
@@ -35,6 +36,10 @@ pub trait RuleSet {
         ensures { MatchResult result
             (λ premises. LeadsWithinLimits (instance self.now (task_view task.now)) (sequent_view sequent.now) (step_view step.now) (map sequent_view premises.items))
             (λ bad. IsCaused (cause self.now (task_view task.now) (sequent_view sequent.now) (step_view step.now)) bad) };
+
+    /// An instance is sound: in each program that the task's tables stand for, at each depth and measure
+    /// at which the contracts are usable, the sequent is valid where the premises are.
+    ghost sound: { (r : Self) (t : PlainTask) (s : PlainSequent) (p : PlainStep) (ps : List PlainSequent) → accepts r t s → instance r t s p ps → StepIsSound t s ps };
 
     /// The premises of an instance are taken again.
     ghost keeps: { (r : Self) (t : PlainTask) (s : PlainSequent) (p : PlainStep) (ps : List PlainSequent) → accepts r t s → instance r t s p ps → All (accepts r t) ps };
