@@ -1,5 +1,5 @@
 -- That every case is kept where its obligation is closed, and which families reach which.
-use Rattle.std.proofs.Common.{◌≡◌, ℕ, Bool, true}
+use Rattle.std.proofs.Common.{ℕ, Bool}
 use Rattle.jd_oblig.specs.ClosedTasks.{EveryClosedCaseIsKept}
 use Rattle.jd_oblig.specs.CallGraphs.{ReachesBy, reaches_itself, reaches_by_call, CallsGiveReachability}
 use Rattle.jd_oblig.proofs.Links.{rows_make_obligations, every_case_is_kept}

@@ -14,7 +14,7 @@ use Rattle.jd_model.specs.Programs.{Program, ValueType, IntType, BooleanType, Re
 use Rattle.jd_model.specs.Runs.{with_one, with_values, exec_at}
 use Rattle.jd_model.specs.TermValues.{updated}
 use Rattle.jd_model.specs.Truth.{Setting}
-use Rattle.jd_model.specs.Occurrences.{Always, But, MaybeIn, AllOf, NotIn, AllApart}
+use Rattle.jd_model.specs.Occurrences.{Always, But, MaybeIn, AllOf, NotIn}
 use Rattle.jd_model.specs.Bodies.{AtEnd}
 use Rattle.jd_model.specs.Cases.{Parameter}
 use Rattle.jd_model.specs.EntryExit.{AreOf, is_of}

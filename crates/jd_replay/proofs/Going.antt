@@ -1,8 +1,8 @@
 -- A replay on its way, over plain lists.
-use Rattle.std.proofs.Common.{◌≡◌, ℕ, zero, suc, ◌+◌, ◌<◌, ◌≤◌, Bool, true, false, ◌&&◌, List, [], ◌∷◌, ◌++◌, length, Some, None, All, refl, sym, ap, ◌∙◌, subst, arith, append_assoc, append-nil, length-append, Option}
+use Rattle.std.proofs.Common.{◌≡◌, ℕ, zero, suc, ◌+◌, ◌≤◌, Bool, true, false, ◌&&◌, List, [], ◌∷◌, ◌++◌, length, Some, None, All, refl, sym, ap, ◌∙◌, subst, arith, append_assoc, append-nil, length-append, Option}
 use Rattle.std.proofs.lemmas.Bool.Decides.{nat_tests}
 use Rattle.jd_model.specs.Sequents.{PlainSequent}
-use Rattle.jd_sequent.specs.Trees.{PlainStep, PlainNode, ProofTree, OpenLeaf, ByStep, ProofTrees, NoTrees, TreeThen, first_trees, after_trees, count_trees, forest, are_trees, leaf_is_bare, tree_at, head_tree, tree_of, steps_in, steps_in_all}
+use Rattle.jd_sequent.specs.Trees.{PlainStep, PlainNode, ProofTree, ProofTrees, NoTrees, TreeThen, first_trees, after_trees, count_trees, forest, are_trees, leaf_is_bare, tree_at, head_tree, tree_of, steps_in, steps_in_all}
 use Rattle.jd_sequent.specs.Derives.{Derives, DeriveAll}
 
 -- a predicate of each sequent of a list

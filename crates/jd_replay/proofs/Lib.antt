@@ -1,3 +1,4 @@
 pub mod Going
 pub mod Refused
 pub mod Turns
+pub mod Closed

@@ -1,5 +1,5 @@
 -- The turns of a replay's loop, over the code's values.
-use Rattle.std.proofs.Common.{◌≡◌, ℕ, ◌+◌, ◌<◌, ◌≤◌, true, List, [], ◌∷◌, ◌++◌, length, Option, Some, None, get_or, refl, sym, ap, ◌∙◌, subst, arith, map, drop, reverse}
+use Rattle.std.proofs.Common.{◌≡◌, ℕ, ◌+◌, ◌<◌, ◌≤◌, true, List, [], ◌∷◌, ◌++◌, length, Some, None, get_or, refl, sym, ap, ◌∙◌, subst, arith, map, drop, reverse}
 use Rattle.std.proofs.lemmas.List.{drop_all, drop_more, get_or-map, length-map, map-append, reverse-append, reverse-reverse}
 use Rattle.jd_model.specs.declared.sequent.Sequent.{Sequent}
 use Rattle.jd_model.specs.Sequents.{PlainSequent, sequent_view}
@@ -7,7 +7,7 @@ use Rattle.jd_sequent.specs.declared.script.ScriptNode.{ScriptNode}
 use Rattle.jd_sequent.specs.Trees.{PlainStep, PlainNode, ProofTree, are_trees, tree_of, steps_in}
 use Rattle.jd_sequent.specs.Steps.{node_view}
 use Rattle.jd_sequent.specs.Derives.{Derives}
-use Rattle.jd_replay.proofs.Going.{Going, Each, going_start, going_some, going_open, going_step, going_refused, going_miscounted, going_done}
+use Rattle.jd_replay.proofs.Going.{Going, Each, going_start, going_some, going_open, going_step, going_miscounted, going_done}
 
 next : (nodes : List ScriptNode) (i : ℕ) (n : ScriptNode) → n ≡ get_or nodes i n → i < length nodes → drop i (map node_view nodes) ≡ node_view n ∷ drop (i + 1) (map node_view nodes)
 next nodes i n is lt =

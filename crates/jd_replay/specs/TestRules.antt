@@ -1,14 +1,23 @@
--- A small set of rules, for the tests.
-use Rattle.std.specs.Prelude.{◌≡◌, ◌<◌, ◌≤◌, ◌^◌, List, [], ◌∷◌, Option, Some, None, option_map, length}
-use Rattle.std.proofs.Common.{sym, ◌∙◌, subst, arith}
-use Rattle.jd_term.specs.Formulas.{TrueFormula}
+-- A small set of rules, for the tests: it takes sequents with `true` alone on the right, which are valid.
+use Rattle.std.specs.Prelude.{◌≡◌, ◌<◌, ◌^◌, zero, suc, List, [], ◌∷◌, All, Option, Some, None, option_map, length}
+use Rattle.std.proofs.Common.{refl, sym, ◌∙◌, subst, arith}
+use Rattle.jd_term.specs.Formulas.{PlainFormula, TrueFormula}
+use Rattle.jd_model.specs.Validity.{AllFalse}
+use Rattle.jd_sequent.specs.Obligations.{PlainTask}
+use Rattle.jd_sequent.specs.TaskMeaning.{StepIsSound}
 use Rattle.jd_model.specs.declared.sequent.Side.{Side}
 use Rattle.jd_model.specs.declared.sequent.Side.TheVariants.{Left, Right}
 use Rattle.jd_model.specs.Sequents.{PlainSequent, PlainPlace}
 
+abbrev pub only_true : List PlainFormula
+only_true = TrueFormula ∷ []
+
+abbrev pub IsTaken : PlainSequent → Type 0
+IsTaken s = s.right ≡ only_true
+
 abbrev pub premises_on : Side → List PlainSequent
 premises_on Left = []
-premises_on Right = record { left = TrueFormula ∷ []; right = [] } ∷ record { left = []; right = [] } ∷ []
+premises_on Right = record { left = only_true; right = only_true } ∷ record { left = []; right = only_true } ∷ []
 
 -- a step on the left closes, one on the right leads to two premises, and one without a place is refused
 abbrev pub premises_at : Option PlainPlace → Option (List PlainSequent)
@@ -33,3 +42,23 @@ few_on Right = omega arith
 pub few : (o : Option PlainPlace) (ps : List PlainSequent) → premises_at o ≡ Some ps → length ps < 2 ^ 32
 few None ps e = absurd (none_some e)
 few (Some p) ps e = subst (λ l. length l < 2 ^ 32) (some_same e) (few_on p.side)
+
+none_taken : All IsTaken []
+none_taken k d lt = absurd (omega arith)
+
+taken_on : (side : Side) → All IsTaken (premises_on side)
+taken_on Left = none_taken
+taken_on Right = two
+  where
+    two : All IsTaken (premises_on Right)
+    two zero d lt = refl
+    two (suc zero) d lt = refl
+    two (suc (suc k)) d lt = absurd (omega (arith, lt))
+
+pub taken : (o : Option PlainPlace) (ps : List PlainSequent) → premises_at o ≡ Some ps → All IsTaken ps
+taken None ps e = absurd (none_some e)
+taken (Some p) ps e = subst (All IsTaken) (some_same e) (taken_on p.side)
+
+pub taken_is_valid : (t : PlainTask) (s : PlainSequent) (ps : List PlainSequent) → IsTaken s → StepIsSound t s ps
+taken_is_valid t s ps is p c stands d m usable valid i state measure refuted =
+    (subst (AllFalse p.setting d i state []) is refuted.1).0 tt

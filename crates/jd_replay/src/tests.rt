@@ -1,7 +1,7 @@
-ghost use Rattle.std.specs.Prelude.{◌≡◌, ◌∷◌, [], IfOk, Some, None, map, option_map};
-ghost use Rattle.jd_term.specs.Formulas.{TrueFormula};
+ghost use Rattle.std.specs.Prelude.{◌≡◌, [], IfOk, Some, None, map, option_map};
 ghost use Rattle.jd_model.specs.Sequents.{sequent_view, place_view};
-ghost use Rattle.jd_replay.specs.TestRules.{premises_at, no_cause, one_way, few};
+ghost use Rattle.jd_term.specs.Formulas.{formula_view};
+ghost use Rattle.jd_replay.specs.TestRules.{IsTaken, only_true, premises_at, no_cause, one_way, few, taken, taken_is_valid};
 
 use crate::{Cause, Verdict, replay};
 use jd_base::{ClassId, MethodId, NoMemory};
@@ -13,24 +13,32 @@ use std::test::Fail;
 
 struct TestRules;
 
-fn empty(alloc: Global) -> Sequent
-    ensures { sequent_view result ≡ record { left = []; right = [] } }
+fn only(alloc: Global) -> Result<Vec<Formula>, NoMemory>
+    ensures { IfOk result (λ v. map formula_view v.items ≡ only_true) }
 {
-    Sequent {
-        left: Vec::new(alloc),
-        right: Vec::new(alloc),
-    }
+    let mut formulas = Vec::new(alloc);
+    formulas.push(Formula::TrueFormula)?;
+    Ok(formulas)
 }
 
-// true ==>
-fn assumed(alloc: Global) -> Result<Sequent, NoMemory>
-    ensures { IfOk result (λ s. sequent_view s ≡ record { left = TrueFormula ∷ []; right = [] }) }
+// ==> true
+fn shown(alloc: Global) -> Result<Sequent, NoMemory>
+    ensures { IfOk result (λ s. sequent_view s ≡ record { left = []; right = only_true }) }
 {
-    let mut left = Vec::new(alloc);
-    left.push(Formula::TrueFormula)?;
+    Ok(Sequent {
+        left: Vec::new(alloc),
+        right: only(alloc)?,
+    })
+}
+
+// true ==> true
+fn assumed(alloc: Global) -> Result<Sequent, NoMemory>
+    ensures { IfOk result (λ s. sequent_view s ≡ record { left = only_true; right = only_true }) }
+{
+    let left = only(alloc)?;
     Ok(Sequent {
         left,
-        right: Vec::new(alloc),
+        right: only(alloc)?,
     })
 }
 
@@ -44,14 +52,14 @@ fn premises(alloc: Global, place: &Option<Place>) -> Result<Option<Vec<Sequent>>
         Side::Left => Ok(Some(premises)),
         Side::Right => {
             premises.push(assumed(alloc)?)?;
-            premises.push(empty(alloc))?;
+            premises.push(shown(alloc)?)?;
             Ok(Some(premises))
         }
     }
 }
 
 impl RuleSet for TestRules {
-    ghost accepts = { λ r t s. Unit {0} };
+    ghost accepts = { λ r t s. IsTaken s };
 
     ghost instance = { λ r t s p ps. premises_at p.place ≡ Some ps };
 
@@ -70,7 +78,9 @@ impl RuleSet for TestRules {
         }
     }
 
-    ghost keeps = { λ r t s p ps a i. λ k d lt. tt };
+    ghost sound = { λ r t s p ps a i. taken_is_valid t s ps a };
+
+    ghost keeps = { λ r t s p ps a i. taken p.place ps i };
 
     ghost has_no_cause = { λ r t s p ps n l c. no_cause p.place ps l.0 c };
 
@@ -79,8 +89,8 @@ impl RuleSet for TestRules {
     ghost few = { λ r t s p ps a. few p.place ps a };
 }
 
-fn obligation(alloc: Global) -> Obligation {
-    Obligation {
+fn obligation(alloc: Global) -> Result<Obligation, NoMemory> {
+    Ok(Obligation {
         name: Vec::new(alloc),
         class: ClassId(10),
         method: MethodId(0),
@@ -89,17 +99,7 @@ fn obligation(alloc: Global) -> Obligation {
         loops: Vec::new(alloc),
         consts: Vec::new(alloc),
         diamond: true,
-        sequent: empty(alloc),
-    }
-}
-
-// ==> false
-fn goal(alloc: Global) -> Result<Sequent, NoMemory> {
-    let mut right = Vec::new(alloc);
-    right.push(Formula::FalseFormula)?;
-    Ok(Sequent {
-        left: Vec::new(alloc),
-        right,
+        sequent: shown(alloc)?,
     })
 }
 
@@ -167,14 +167,14 @@ fn words(alloc: Global, verdict: &Verdict) -> Result<String, AllocError> {
 #[test]
 fn scripts_are_replayed(rt: HostRuntime) -> Result<(), Fail> {
     let alloc = rt.alloc();
-    let obligation = obligation(alloc);
+    let obligation = obligation(alloc)?;
     let contracts = Contracts {
         cases: Vec::new(alloc),
         invariants: Vec::new(alloc),
         bodies: Vec::new(alloc),
     };
     let task = Task::of(&contracts, &obligation);
-    let goal = goal(alloc)?;
+    let goal = shown(alloc)?;
     for (told, want) in [
         ([(b'L', 0)].as_slice(), "closed 1"),
         (
@@ -184,11 +184,11 @@ fn scripts_are_replayed(rt: HostRuntime) -> Result<(), Fail> {
         (&[(b'-', 0)], "open 0=>1"),
         (
             &[(b'R', 2), (b'-', 0), (b'R', 2), (b'L', 0), (b'-', 0)],
-            "open 1=>0 0=>0",
+            "open 1=>1 0=>1",
         ),
         (
             &[(b'R', 2), (b'R', 2), (b'-', 0), (b'-', 0), (b'-', 0)],
-            "open 1=>0 0=>0 0=>0",
+            "open 1=>1 0=>1 0=>1",
         ),
         (&[(b'L', 1), (b'-', 0)], "bad 1 has 1 for 0"),
         (

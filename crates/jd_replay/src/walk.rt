@@ -4,7 +4,7 @@ ghost use Rattle.jd_sequent.specs.Trees.{tree_of};
 ghost use Rattle.jd_sequent.specs.Steps.{node_view};
 ghost use Rattle.jd_sequent.specs.Obligations.{task_view};
 ghost use Rattle.jd_sequent.specs.Rules.{LeadsWithinLimits};
-ghost use Rattle.jd_replay.specs.Verdicts.{IsRefusal, IsVerdict};
+ghost use Rattle.jd_replay.specs.Verdicts.{ClosedIsValid, IsRefusal, IsVerdict};
 
 use crate::verdict::{Cause, Verdict};
 use jd_base::NoMemory;
@@ -92,8 +92,9 @@ pub fn replay<R: RuleSet>(
     script: &ScriptTree,
 ) -> Result<Verdict, NoMemory>
     requires { R.accepts rules.now (task_view task.now) (sequent_view goal.now) }
-    ensures { IfOk result
+    ensures verdict { IfOk result
         (λ verdict. IsVerdict (LeadsWithinLimits (R.instance rules.now (task_view task.now))) (tree_of (map node_view script.now.nodes.items)) (sequent_view goal.now) verdict) }
+    ensures closed { IfOk result (ClosedIsValid (task_view task.now) (sequent_view goal.now)) }
 {
     let goal = goal.copy(alloc)?;
     replayed(alloc, rules, task, goal, script)

@@ -1,5 +1,5 @@
 -- Derivations of sound steps are sound, by induction on the tree.
-use Rattle.std.proofs.Common.{ℕ, zero, suc, ℤ, List, [], ◌∷◌, ◌++◌, All, arith, subst}
+use Rattle.std.proofs.Common.{ℕ, suc, ℤ, List, [], ◌∷◌, ◌++◌, All, arith, subst}
 use Rattle.jd_model.specs.Sequents.{PlainSequent}
 use Rattle.jd_model.specs.Truth.{Setting}
 use Rattle.jd_model.specs.Validity.{Valid, AllValid}
