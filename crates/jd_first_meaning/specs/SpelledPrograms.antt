@@ -1,5 +1,6 @@
 -- What a file of the first form says, as a program with its contract: apart from how the file is read, and from the formulas that are made of it.
-use Rattle.std.specs.Prelude.{◌≡◌, ◌↔◌, ℕ, suc, nat_eq, Bool, true, false, not, ℤ, pos, int_lt, int_le, if◌then◌else◌, List, [], ◌∷◌, map, Some, None}
+use Rattle.std.specs.Prelude.{◌≡◌, ◌↔◌, ℕ, suc, nat_eq, Bool, true, false, not, ℤ, pos, int_lt, int_le, if◌then◌else◌, List, [], ◌∷◌, map, slice_get, Some, None}
+use Rattle.std.specs.Option.{unwrap_or}
 use Rattle.std.specs.Str.{bytes_eq}
 use Rattle.jd_base.specs.declared.sort.Sort.TheVariants.{Int as IntSort}
 use Rattle.jd_term.specs.Terms.{Number, AllLocations}
@@ -21,19 +22,24 @@ use Rattle.jd_first_oblig.specs.Obligations.{body_code, class_number, method_num
 
 -- 0 Object, 1 Throwable, 2 Exception, 3 RuntimeException, 4 NullPointerException, 5 ArithmeticException, 6 IndexOutOfBoundsException,
 -- 7 NegativeArraySizeException, 8 ClassCastException, 9 ArrayIndexOutOfBoundsException, 10 the file's own
+abbrev pub superclass_table : List (List ℕ)
+superclass_table =
+    (0 ∷ [])
+    ∷ (0 ∷ 1 ∷ [])
+    ∷ (0 ∷ 1 ∷ 2 ∷ [])
+    ∷ (0 ∷ 1 ∷ 2 ∷ 3 ∷ [])
+    ∷ (0 ∷ 1 ∷ 2 ∷ 3 ∷ 4 ∷ [])
+    ∷ (0 ∷ 1 ∷ 2 ∷ 3 ∷ 5 ∷ [])
+    ∷ (0 ∷ 1 ∷ 2 ∷ 3 ∷ 6 ∷ [])
+    ∷ (0 ∷ 1 ∷ 2 ∷ 3 ∷ 7 ∷ [])
+    ∷ (0 ∷ 1 ∷ 2 ∷ 3 ∷ 8 ∷ [])
+    ∷ (0 ∷ 1 ∷ 2 ∷ 3 ∷ 6 ∷ 9 ∷ [])
+    ∷ (0 ∷ 10 ∷ [])
+    ∷ []
+
+-- a class and the classes above it
 abbrev pub superclasses_of : ℕ → List ℕ
-superclasses_of 0 = 0 ∷ []
-superclasses_of 1 = 0 ∷ 1 ∷ []
-superclasses_of 2 = 0 ∷ 1 ∷ 2 ∷ []
-superclasses_of 3 = 0 ∷ 1 ∷ 2 ∷ 3 ∷ []
-superclasses_of 4 = 0 ∷ 1 ∷ 2 ∷ 3 ∷ 4 ∷ []
-superclasses_of 5 = 0 ∷ 1 ∷ 2 ∷ 3 ∷ 5 ∷ []
-superclasses_of 6 = 0 ∷ 1 ∷ 2 ∷ 3 ∷ 6 ∷ []
-superclasses_of 7 = 0 ∷ 1 ∷ 2 ∷ 3 ∷ 7 ∷ []
-superclasses_of 8 = 0 ∷ 1 ∷ 2 ∷ 3 ∷ 8 ∷ []
-superclasses_of 9 = 0 ∷ 1 ∷ 2 ∷ 3 ∷ 6 ∷ 9 ∷ []
-superclasses_of 10 = 0 ∷ 10 ∷ []
-superclasses_of c = []
+superclasses_of c = unwrap_or (slice_get superclass_table c) []
 
 -- no class has a field, and no method is found on an object: the file's one method is static
 pub record HasClasses (p : model.Program) : Type 0 where

@@ -1,0 +1,2 @@
+mod ParameterNames
+mod Comparisons
