@@ -2,13 +2,14 @@
 use Rattle.std.proofs.Common.{◌≡◌, ◌↔◌, ℕ, Bool, true, false, ℤ, pos, Some, None, List, [], ◌∷◌, map, refl, sym, ap, ◌∙◌, subst}
 use Rattle.std.specs.List.{All}
 use Rattle.jd_base.specs.declared.sort.Sort.TheVariants.{Int as IntSort}
+use Rattle.jd_syntax.specs.Names.{Name}
 use Rattle.jd_syntax.specs.CodeNames.{heap_name}
 use Rattle.jd_syntax.specs.Codes.{OfClass}
 use Rattle.jd_term.specs.Terms.{PlainTerm, ProgramVariable, Constant}
 use Rattle.jd_term.specs.Formulas.{PlainFormula, WellFormed}
 use Rattle.jd_heap.specs.References.{Null}
 use Rattle.jd_heap.specs.Heaps.{Heap}
-use Rattle.jd_heap.specs.Values.{Value, IntValue, BoolValue, RefValue, as_int, as_bool, as_ref, as_heap, IsOf}
+use Rattle.jd_heap.specs.Values.{Value, IntValue, BoolValue, RefValue, as_int, as_bool, as_ref, as_heap, at_sort}
 use Rattle.jd_model.specs.SpecialNames.{int_result, thrown_variable, entry_heap, entry_measure, receiver}
 use Rattle.jd_model.specs.States.{State, read, heap_of}
 use Rattle.jd_model.specs.Truth.{Setting}
@@ -20,7 +21,7 @@ use Rattle.jd_model.specs.Renamings.{FirstOrder, AllFirstOrder}
 use Rattle.jd_model.specs.Cases.{Contract, SpecifiedProgram}
 use Rattle.jd_model.specs.EntryExit.{AreOf, EntryAs, NormalEnd, ExceptionalEnd, normal_moment, thrown_moment, is_of}
 use Rattle.jd_model.specs.Tables.{SortsOf, loosened, members, constants_of_parameters, CaseStandsFor}
-use Rattle.jd_model.proofs.States.{read_of}
+use Rattle.jd_model.proofs.Writes.{read_back}
 use Rattle.jd_first_java.specs.declared.syntax.Comparison.{Comparison}
 use Rattle.jd_first_java.specs.declared.syntax.Comparison.TheVariants.{Equal, NotEqual, Less, LessOrEqual, Greater, GreaterOrEqual}
 use Rattle.jd_first_java.specs.Programs.{IsIdentifier, IsProgram, Program}
@@ -28,7 +29,7 @@ use Rattle.jd_first_oblig.specs.Special.{parameter_variable, parameter_constant}
 use Rattle.jd_first_oblig.specs.Obligations.{operand_term, comparison_formula, condition_formula, in_range, entry_conditions, normal_members, exceptional_members, case_of, class_number}
 use Rattle.jd_first_meaning.specs.SpelledPrograms.{an_int, int_parameter, body_of_method, case_with, is_ensured, HasClasses}
 use Rattle.jd_first_meaning.proofs.ParameterNames.{constants_of_variables, entry_apart}
-use Rattle.jd_first_meaning.proofs.Operands.{HasArguments, argument_read, int_whole, condition_means}
+use Rattle.jd_first_meaning.proofs.Operands.{HasArguments, argument_read, condition_means}
 use Rattle.jd_first_meaning.proofs.KnownContracts.{known_contract, Ensure}
 
 -- ---- the form of the formulas
@@ -55,18 +56,18 @@ comparison_first_order GreaterOrEqual t u = tt
 
 -- ---- integers
 
-int_is : (g : Setting) (h : Heap) (v : Value) → IsOf IntSort v → is_of g h an_int v ≡ in_int (as_int v)
-int_is g h (IntValue z) o = refl
-int_is g h v o = absurd o
+-- what is read of a name of integers
+read_is : (g : Setting) (h : Heap) (s : State) (x : Name) → x.sort ≡ IntSort → is_of g h an_int (read s x) ≡ in_int (as_int (read s x))
+read_is g h s x e = ap (is_of g h an_int) (sym (ap (λ k. at_sort k (read s x)) (sym e) ∙ read_back s x))
 
 module _ (g : Setting) (d : ℕ) (i s : State) (h : Heap) where
   ranges_are : (ps : List (List ℕ)) → AllTrue g d i s [] (map in_range ps) → AreOf g h (map int_parameter ps) (map (read i) (map parameter_constant ps))
   ranges_are [] e = tt
-  ranges_are (x ∷ xs) e = (int_is g h (read i (parameter_constant x)) (read_of i (parameter_constant x)) ∙ e.0, ranges_are xs e.1)
+  ranges_are (x ∷ xs) e = (read_is g h i (parameter_constant x) refl ∙ e.0, ranges_are xs e.1)
 
   are_ranges : (ps : List (List ℕ)) → AreOf g h (map int_parameter ps) (map (read i) (map parameter_constant ps)) → AllTrue g d i s [] (map in_range ps)
   are_ranges [] e = tt
-  are_ranges (x ∷ xs) e = (sym (int_is g h (read i (parameter_constant x)) (read_of i (parameter_constant x))) ∙ e.0, are_ranges xs e.1)
+  are_ranges (x ∷ xs) e = (sym (read_is g h i (parameter_constant x) refl) ∙ e.0, are_ranges xs e.1)
 
 module _ (q : Program) (ok : IsProgram q) (p : SpecifiedProgram) (classes : HasClasses p.setting.program) (es : List PlainFormula) (ensure : Ensure q es) where
   abbrev contract : Contract
@@ -94,14 +95,14 @@ module _ (q : Program) (ok : IsProgram q) (p : SpecifiedProgram) (classes : HasC
   -- ---- the ends
 
   state_has : (i s : State) → HasArguments q.parameters i s (normal_moment p.setting (as_heap (read i entry_heap)) Null (arguments_in i) (heap_of s) (read s int_result))
-  state_has i s = record { argument = λ name k. argument_read i q.parameters name k; result = int_whole (read s int_result) (read_of s int_result) }
+  state_has i s = record { argument = λ name k. argument_read i q.parameters name k; result = sym (read_back s int_result) }
 
   exit_means : (d : ℕ) (i s : State) → AllTrue p.setting d i s [] (WellFormed (ProgramVariable heap_name) ∷ normal_members q) ↔ NormalEnd p.setting contract (normal_moment p.setting (as_heap (read i entry_heap)) Null (arguments_in i) (heap_of s) (read s int_result))
   exit_means d i s =
       let m = normal_moment p.setting (as_heap (read i entry_heap)) Null (arguments_in i) (heap_of s) (read s int_result) in
       let condition = condition_means p.setting d q ok.left ok.right i s m (state_has i s) in
       let clauses = ensure p.setting m in
-      let range = int_is p.setting (heap_of s) (read s int_result) (read_of s int_result) in
+      let range = read_is p.setting (heap_of s) s int_result refl in
       (
         (λ h. record { well_formed = h.0; typed = range ∙ h.1.0; ensured = clauses.1 (condition.0 h.1.1.0); invariant = tt; allowed = tt }),
         (λ e. (e.well_formed, (sym range ∙ e.typed, (condition.1 (clauses.0 e.ensured), tt)))),

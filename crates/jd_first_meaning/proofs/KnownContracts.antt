@@ -19,7 +19,7 @@ use Rattle.jd_first_oblig.specs.Special.{parameter_constant}
 use Rattle.jd_first_oblig.specs.Obligations.{condition_formula}
 use Rattle.jd_first_meaning.specs.SpelledPrograms.{an_int, int_parameter, is_ensured, IsContractOf, IsProgramOf, case_with}
 use Rattle.jd_first_meaning.proofs.ParameterNames.{all_constants_apart}
-use Rattle.jd_first_meaning.proofs.Operands.{HasArguments, argument_given, int_whole, condition_means}
+use Rattle.jd_first_meaning.proofs.Operands.{HasArguments, argument_given, condition_means}
 
 abbrev pub known_contract : Program → List PlainFormula → Contract
 known_contract q es = record {

@@ -6,7 +6,7 @@ use Rattle.std.specs.Str.{bytes_eq}
 use Rattle.std.proofs.lemmas.Slice.Eq.{bytes_eq-Decides}
 use Rattle.jd_base.specs.declared.sort.Sort.TheVariants.{Int as IntSort}
 use Rattle.jd_syntax.specs.Names.{Name}
-use Rattle.jd_heap.specs.Values.{Value, IntValue, as_int, IsOf}
+use Rattle.jd_heap.specs.Values.{Value, IntValue, as_int}
 use Rattle.jd_model.specs.SpecialNames.{int_result}
 use Rattle.jd_model.specs.States.{State, read, write}
 use Rattle.jd_model.specs.Runs.{with_values}
@@ -14,19 +14,13 @@ use Rattle.jd_model.specs.TermValues.{value}
 use Rattle.jd_model.specs.Truth.{Setting, Truth}
 use Rattle.jd_model.specs.Occurrences.{NotIn, AllApart}
 use Rattle.jd_model.specs.EntryExit.{Moment}
-use Rattle.jd_model.proofs.States.{read_of}
-use Rattle.jd_model.proofs.Writes.{read_here, read_there, read_other}
+use Rattle.jd_model.proofs.Writes.{flip_apart, read_back, read_here, read_there, read_other}
 use Rattle.jd_first_java.specs.Programs.{Operand, Parameter, Literal, Result, Condition, IsOperand, Program}
 use Rattle.jd_first_oblig.specs.Special.{parameter_constant}
 use Rattle.jd_first_oblig.specs.Obligations.{operand_term, condition_formula}
 use Rattle.jd_first_meaning.specs.SpelledPrograms.{compare, argument_of, operand_value, is_ensured}
 use Rattle.jd_first_meaning.proofs.Comparisons.{comparison_means}
 use Rattle.jd_first_meaning.proofs.ParameterNames.{constants_apart}
-
--- an integer is whole in its part
-pub int_whole : (v : Value) → IsOf IntSort v → v ≡ IntValue (as_int v)
-int_whole (IntValue z) o = refl
-int_whole v o = absurd o
 
 -- ---- an argument
 
@@ -40,7 +34,7 @@ argument_read i (x ∷ xs) name h = by (argument_read i xs name) (bytes_eq x nam
     more (suc k) lt e apart = (k, omega (arith, lt), e)
 
     by : (Contains xs name → read i (parameter_constant name) ≡ IntValue (argument_of xs (map (read i) (map parameter_constant xs)) name)) → (t : Bool) → bytes_eq x name ≡ t → read i (parameter_constant name) ≡ IntValue (if t then as_int (read i (parameter_constant x)) else argument_of xs (map (read i) (map parameter_constant xs)) name)
-    by rest true e = ap (λ n. read i (parameter_constant n)) (sym ((bytes_eq-Decides x name).0 e)) ∙ int_whole (read i (parameter_constant x)) (read_of i (parameter_constant x))
+    by rest true e = ap (λ n. read i (parameter_constant n)) (sym ((bytes_eq-Decides x name).0 e)) ∙ sym (read_back i (parameter_constant x))
     by rest false e = rest (more h.0 h.1 h.2 e)
 
 -- in the one that is given a list of arguments: the first of its name, and 0 where there is none
@@ -54,7 +48,7 @@ argument_given i (x ∷ xs) (v ∷ vs) name a e = by (argument_given (write i (p
         ap (λ n. read (with_values (write i (parameter_constant x) v) (map parameter_constant xs) vs) (parameter_constant n)) (sym ((bytes_eq-Decides x name).0 p))
         ∙ read_other (write i (parameter_constant x) v) (map parameter_constant xs) vs (parameter_constant x) a.0
         ∙ read_here i (parameter_constant x) v
-    by rest false p = rest (read_there i (parameter_constant x) v (parameter_constant name) (constants_apart name x (λ q. true≢false (sym ((bytes_eq-Decides x name).1 (sym q)) ∙ p))) ∙ e)
+    by rest false p = rest (read_there i (parameter_constant x) v (parameter_constant name) (flip_apart (parameter_constant x) (parameter_constant name) (constants_apart x name p)) ∙ e)
 
 -- ---- operands, and the condition
 

@@ -1,10 +1,11 @@
 -- The variables and the constants of parameters: their names, and that no two of them are the same.
-use Rattle.std.proofs.Common.{◌≡◌, ◌≢◌, ℕ, zero, suc, ◌<◌, nat_eq, Bool, true, false, cond, not, List, [], ◌∷◌, ◌++◌, length, map, refl, sym, ap, ◌∙◌, subst, true≢false, arith}
+use Rattle.std.proofs.Common.{◌≡◌, ◌≢◌, ℕ, zero, suc, ◌<◌, nat_eq, Bool, true, false, ◌&&◌, List, [], ◌∷◌, ◌++◌, length, map, refl, sym, ap, ◌∙◌, subst, true≢false, arith}
 use Rattle.std.specs.Prelude.{codes, if◌then◌else◌}
-use Rattle.std.specs.List.{All, AllPass, AllPairs}
+use Rattle.std.specs.List.{All, AllPass, AllPairs, AllByRecursion, IsDistinct}
 use Rattle.std.specs.Str.{bytes_eq}
 use Rattle.std.proofs.lemmas.Bool.{eqb-true, ne_eqb}
 use Rattle.std.proofs.lemmas.List.Elements.{All-head, All-tail}
+use Rattle.std.proofs.lemmas.Map.Made.{IsDistinct-from_AllPairs}
 use Rattle.std.proofs.lemmas.Slice.Eq.{bytes_eq-Decides}
 use Rattle.jd_base.specs.declared.sort.Sort.TheVariants.{Int as IntSort}
 use Rattle.jd_syntax.specs.Names.{Name}
@@ -18,14 +19,6 @@ use Rattle.jd_model.specs.Tables.{constants_of_parameters, source_name}
 use Rattle.jd_first_java.specs.Alphabet.{is_name_byte}
 use Rattle.jd_first_java.specs.Programs.{IsIdentifier, AreParameters}
 use Rattle.jd_first_oblig.specs.Special.{printed_name, parameter_variable, parameter_constant}
-
--- ---- lists in which no two are the same
-
-pub pairs_head : {X : Type 0} (R : X → X → Type 0) (x : X) (xs : List X) → AllPairs R (x ∷ xs) → All (R x) xs
-pairs_head R x xs h = λ k d lt. h zero (suc k) d (omega arith) (omega (arith, lt))
-
-pub pairs_tail : {X : Type 0} (R : X → X → Type 0) (x : X) (xs : List X) → AllPairs R (x ∷ xs) → AllPairs R xs
-pairs_tail R x xs h = λ i j d lt more. h (suc i) (suc j) d (omega (arith, lt)) (omega (arith, more))
 
 -- ---- a name's bytes
 
@@ -71,29 +64,20 @@ pub constants_of_variables : (ps : List (List ℕ)) → All IsIdentifier ps → 
 constants_of_variables [] h = refl
 constants_of_variables (x ∷ xs) h = λ i. constant_of_variable x (All-head IsIdentifier x xs h).bytes i ∷ constants_of_variables xs (All-tail IsIdentifier x xs h) i
 
-abbrev behind_three : List ℕ → List ℕ
-behind_three [] = []
-behind_three (a ∷ []) = []
-behind_three (a ∷ (b ∷ [])) = []
-behind_three (a ∷ (b ∷ (c ∷ l))) = l
+pub constants_apart : (v w : List ℕ) → bytes_eq v w ≡ false → same_name (parameter_constant v) (parameter_constant w) ≡ false
+constants_apart v w e = ap (λ b. b && true) e
 
-abbrev name_of_constant : Name → List ℕ
-name_of_constant x = behind_three x.text
-
-pub constants_apart : (v w : List ℕ) → v ≢ w → same_name (parameter_constant v) (parameter_constant w) ≡ false
-constants_apart v w other = by (same_name (parameter_constant v) (parameter_constant w)) refl
-  where
-    by : (t : Bool) → same_name (parameter_constant v) (parameter_constant w) ≡ t → t ≡ false
-    by true e = absurd (other (ap name_of_constant ((same_name_decides (parameter_constant v) (parameter_constant w)).0 e)))
-    by false e = refl
-
-constant_not_in : (x : List ℕ) (ps : List (List ℕ)) → All (λ y. x ≢ y) ps → NotIn (parameter_constant x) (map parameter_constant ps)
+constant_not_in : (x : List ℕ) (ps : List (List ℕ)) → AllByRecursion (λ y. bytes_eq x y ≡ false) ps → NotIn (parameter_constant x) (map parameter_constant ps)
 constant_not_in x [] h = tt
-constant_not_in x (y ∷ ys) h = (constants_apart x y (All-head (λ z. x ≢ z) y ys h), constant_not_in x ys (All-tail (λ z. x ≢ z) y ys h))
+constant_not_in x (y ∷ ys) h = (constants_apart x y h.0, constant_not_in x ys h.1)
+
+distinct_constants : (ps : List (List ℕ)) → IsDistinct bytes_eq ps → AllApart (map parameter_constant ps)
+unfolding IsDistinct
+distinct_constants [] h = tt
+distinct_constants (x ∷ xs) h = (constant_not_in x xs h.0, distinct_constants xs h.1)
 
 pub all_constants_apart : (ps : List (List ℕ)) → AllPairs (λ x y. x ≢ y) ps → AllApart (map parameter_constant ps)
-all_constants_apart [] h = tt
-all_constants_apart (x ∷ xs) h = (constant_not_in x xs (pairs_head (λ x y. x ≢ y) x xs h), all_constants_apart xs (pairs_tail (λ x y. x ≢ y) x xs h))
+all_constants_apart ps h = distinct_constants ps (IsDistinct-from_AllPairs bytes_eq-Decides ps h)
 
 -- no constant of a parameter is one of the entry
 measure_not_in : (ps : List (List ℕ)) → NotIn entry_measure (map parameter_constant ps)
