@@ -1,6 +1,5 @@
 -- The table's row of a program stands for its case.
-use Rattle.std.proofs.Common.{◌≡◌, ◌↔◌, ℕ, Bool, true, false, ℤ, pos, Some, None, List, [], ◌∷◌, map, refl, sym, ap, ◌∙◌, subst}
-use Rattle.std.specs.List.{All}
+use Rattle.std.proofs.Common.{◌≡◌, ◌↔◌, ℕ, Bool, true, false, List, [], ◌∷◌, map, refl, sym, ap, ◌∙◌, subst}
 use Rattle.jd_base.specs.declared.sort.Sort.TheVariants.{Int as IntSort}
 use Rattle.jd_syntax.specs.Names.{Name}
 use Rattle.jd_syntax.specs.CodeNames.{heap_name}
@@ -9,7 +8,7 @@ use Rattle.jd_term.specs.Terms.{PlainTerm, ProgramVariable, Constant}
 use Rattle.jd_term.specs.Formulas.{PlainFormula, WellFormed}
 use Rattle.jd_heap.specs.References.{Null}
 use Rattle.jd_heap.specs.Heaps.{Heap}
-use Rattle.jd_heap.specs.Values.{Value, IntValue, BoolValue, RefValue, as_int, as_bool, as_ref, as_heap, at_sort}
+use Rattle.jd_heap.specs.Values.{Value, BoolValue, as_int, as_bool, as_ref, as_heap, at_sort}
 use Rattle.jd_model.specs.SpecialNames.{int_result, thrown_variable, entry_heap, entry_measure, receiver}
 use Rattle.jd_model.specs.States.{State, read, heap_of}
 use Rattle.jd_model.specs.Truth.{Setting}
@@ -24,10 +23,10 @@ use Rattle.jd_model.specs.Tables.{SortsOf, loosened, members, constants_of_param
 use Rattle.jd_model.proofs.Writes.{read_back}
 use Rattle.jd_first_java.specs.declared.syntax.Comparison.{Comparison}
 use Rattle.jd_first_java.specs.declared.syntax.Comparison.TheVariants.{Equal, NotEqual, Less, LessOrEqual, Greater, GreaterOrEqual}
-use Rattle.jd_first_java.specs.Programs.{IsIdentifier, IsProgram, Program}
+use Rattle.jd_first_java.specs.Programs.{IsProgram, Program}
 use Rattle.jd_first_oblig.specs.Special.{parameter_variable, parameter_constant}
-use Rattle.jd_first_oblig.specs.Obligations.{operand_term, comparison_formula, condition_formula, in_range, entry_conditions, normal_members, exceptional_members, case_of, class_number}
-use Rattle.jd_first_meaning.specs.SpelledPrograms.{an_int, int_parameter, body_of_method, case_with, is_ensured, HasClasses}
+use Rattle.jd_first_oblig.specs.Obligations.{operand_term, comparison_formula, in_range, entry_conditions, normal_members, exceptional_members, case_of, class_number}
+use Rattle.jd_first_meaning.specs.SpelledPrograms.{an_int, int_parameter, body_of_method, case_with, HasClasses}
 use Rattle.jd_first_meaning.proofs.ParameterNames.{constants_of_variables, entry_apart}
 use Rattle.jd_first_meaning.proofs.Operands.{HasArguments, argument_read, condition_means}
 use Rattle.jd_first_meaning.proofs.KnownContracts.{known_contract, Ensure}
@@ -102,16 +101,14 @@ module _ (q : Program) (ok : IsProgram q) (p : SpecifiedProgram) (classes : HasC
       let m = normal_moment p.setting (as_heap (read i entry_heap)) Null (arguments_in i) (heap_of s) (read s int_result) in
       let condition = condition_means p.setting d q ok.left ok.right i s m (state_has i s) in
       let clauses = ensure p.setting m in
-      let range = read_is p.setting (heap_of s) s int_result refl in
-      (
+      let range = read_is p.setting (heap_of s) s int_result refl in (
         (λ h. record { well_formed = h.0; typed = range ∙ h.1.0; ensured = clauses.1 (condition.0 h.1.1.0); invariant = tt; allowed = tt }),
         (λ e. (e.well_formed, (sym range ∙ e.typed, (condition.1 (clauses.0 e.ensured), tt)))),
       )
 
   exceptional_means : (d : ℕ) (i s : State) (vs : List Value) → AllTrue p.setting d i s [] (WellFormed (ProgramVariable heap_name) ∷ exceptional_members) ↔ ExceptionalEnd p.setting contract (thrown_moment p.setting (as_heap (read i entry_heap)) Null vs (heap_of s) (as_ref (read s thrown_variable)))
   exceptional_means d i s vs =
-      let class = ap (λ k. is_instance p.setting.program (OfClass k) (as_ref (read s thrown_variable))) classes.throwable in
-      (
+      let class = ap (λ k. is_instance p.setting.program (OfClass k) (as_ref (read s thrown_variable))) classes.throwable in (
         (λ h. record { well_formed = h.0; thrown = class ∙ h.1.0; created = ap as_bool h.1.1.0; signalled = tt; only = tt; allowed = tt; invariant = tt }),
         (λ e. (e.well_formed, (sym class ∙ e.thrown, (ap BoolValue e.created, tt)))),
       )

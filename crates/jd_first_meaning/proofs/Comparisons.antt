@@ -1,9 +1,9 @@
 -- A condition's formula is true exactly where its operands' values compare so.
-use Rattle.std.proofs.Common.{◌≡◌, ◌≢◌, ◌↔◌, ℕ, zero, suc, ◌<◌, Bool, Decides, true, false, cond, not, ◌&&◌, ℤ, pos, negsuc, int_lt, int_le, List, [], ◌∷◌, map, refl, sym, ap, ◌∙◌, subst, true≢false, arith}
+use Rattle.std.proofs.Common.{◌≡◌, ◌↔◌, ℕ, Bool, Decides, true, false, not, ◌&&◌, ℤ, pos, negsuc, int_lt, int_le, [], refl, sym, ap, ◌∙◌, subst, true≢false, arith}
 use Rattle.std.proofs.lemmas.Bool.{ltb-true, ltb-false}
 use Rattle.std.proofs.Math.Nat.{lt_irrefl}
 use Rattle.jd_term.specs.Terms.{PlainTerm}
-use Rattle.jd_heap.specs.Values.{Value, IntValue, as_int}
+use Rattle.jd_heap.specs.Values.{IntValue, as_int}
 use Rattle.jd_model.specs.Runs.{int_same}
 use Rattle.jd_model.specs.States.{State}
 use Rattle.jd_model.specs.TermValues.{value}

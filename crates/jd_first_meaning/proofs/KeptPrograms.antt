@@ -1,5 +1,5 @@
 -- Where the obligation of a program is closed by sound steps, each case of its meaning is kept.
-use Rattle.std.proofs.Common.{◌≡◌, ℕ, zero, suc, ◌<◌, ◌^◌, Bool, true, false, pos, Option, Some, None, List, [], ◌∷◌, ◌++◌, map, slice_get, refl, sym, ap, ◌∙◌, subst, true≢false, arith}
+use Rattle.std.proofs.Common.{◌≡◌, ℕ, zero, suc, ◌<◌, false, Option, Some, None, List, [], ◌∷◌, ◌++◌, map, refl, sym, ◌∙◌, subst, arith}
 use Rattle.std.specs.List.{All}
 use Rattle.std.proofs.lemmas.Bool.{le-leb}
 use Rattle.std.proofs.lemmas.Option.{none-some}
@@ -8,17 +8,15 @@ use Rattle.jd_base.specs.declared.sort.Sort.TheVariants.{Int as IntSort}
 use Rattle.jd_syntax.specs.CodeNames.{heap_name}
 use Rattle.jd_syntax.specs.Codes.{Return, Done, Then}
 use Rattle.jd_term.specs.declared.formula.Modality.TheVariants.{Possibility}
-use Rattle.jd_term.specs.Terms.{NullTerm, Constant, sort_of_term}
-use Rattle.jd_term.specs.Formulas.{Pairs, Updated, Modal}
+use Rattle.jd_term.specs.Terms.{NullTerm, Constant}
+use Rattle.jd_term.specs.Formulas.{Updated, Modal}
 use Rattle.jd_model.specs.Conjunctions.{conjunction}
 use Rattle.jd_model.specs.SpecialNames.{entry_heap, thrown_variable}
-use Rattle.jd_model.specs.Sequents.{PlainSequent}
 use Rattle.jd_model.specs.Programs.{Body}
 use Rattle.jd_model.specs.Occurrences.{Always, CodeIn}
 use Rattle.jd_model.specs.Cases.{Case, SpecifiedProgram}
 use Rattle.jd_model.specs.KeptCases.{Kept}
 use Rattle.jd_model.specs.ResolvedBodies.{NotSpecial, IsResolvedCode, IsResolved, AllResolved}
-use Rattle.jd_model.specs.WellFormedHeaps.{in_int}
 use Rattle.jd_sequent.specs.TaskMeaning.{StepIsSoundIn, StepIsSound}
 use Rattle.jd_oblig.specs.CaseObligations as obligations
 use Rattle.jd_oblig.specs.CaseObligations.{ObligationParts}
@@ -28,7 +26,7 @@ use Rattle.jd_oblig.proofs.ClosedTasks.{every_closed_case_is_kept}
 use Rattle.jd_oblig.proofs.OneCase.{of_one, itself, onward}
 use Rattle.jd_first_java.specs.Programs.{IsIdentifier, Operand, Parameter, Literal, Result, IsValue, IsProgram, Program}
 use Rattle.jd_first_oblig.specs.Special.{parameter_variable}
-use Rattle.jd_first_oblig.specs.Obligations.{entry_members, value_expr, body_code, run_code, exit_members, parameter_pair, start_pairs, obligation_sequent, case_of, normal_members, exceptional_members, contracts_of}
+use Rattle.jd_first_oblig.specs.Obligations.{entry_members, value_expr, run_code, exit_members, parameter_pair, obligation_sequent, case_of, normal_members, exceptional_members, contracts_of}
 use Rattle.jd_first_meaning.specs.SpelledPrograms.{body_of_method, case_with, IsProgramOf}
 use Rattle.jd_first_meaning.specs.ClosedPrograms.{task_of, ClosedProgramsAreKept}
 use Rattle.jd_first_meaning.proofs.ParameterNames.{constant_of_variable, variables_not_special}

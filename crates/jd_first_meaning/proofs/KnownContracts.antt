@@ -1,18 +1,15 @@
 -- The contract that a program has, but for how its postcondition is said.
-use Rattle.std.proofs.Common.{◌≡◌, ◌↔◌, ℕ, true, false, ℤ, pos, Some, None, List, [], ◌∷◌, map, refl, sym, ap, ◌∙◌, subst}
-use Rattle.jd_base.specs.declared.sort.Sort.TheVariants.{Int as IntSort}
-use Rattle.jd_syntax.specs.CodeNames.{same_name}
+use Rattle.std.proofs.Common.{◌≡◌, ◌↔◌, ℕ, true, false, pos, Some, List, [], ◌∷◌, map, refl, ap, ◌∙◌, subst}
 use Rattle.jd_term.specs.Terms.{Number, AllLocations}
 use Rattle.jd_term.specs.Formulas.{PlainFormula}
-use Rattle.jd_heap.specs.References.{Null}
-use Rattle.jd_heap.specs.Values.{Value, IntValue, RefValue, HeapValue, as_int}
+use Rattle.jd_heap.specs.Values.{IntValue, RefValue, HeapValue}
 use Rattle.jd_model.specs.SpecialNames.{int_result, thrown_variable, entry_heap, receiver}
 use Rattle.jd_model.specs.States.{State, read, write, empty_state, with_heap}
 use Rattle.jd_model.specs.Truth.{Setting}
 use Rattle.jd_model.specs.Runs.{with_values}
-use Rattle.jd_model.specs.Cases.{Static, AnyEnd, Contract, Case, SpecifiedProgram}
+use Rattle.jd_model.specs.Cases.{Static, AnyEnd, Contract, SpecifiedProgram}
 use Rattle.jd_model.specs.EntryExit.{Moment, AllHold, constants_of, interpretation_of, state_of}
-use Rattle.jd_model.proofs.States.{read-none, read_of}
+use Rattle.jd_model.proofs.States.{read-none}
 use Rattle.jd_model.proofs.Writes.{read_here, read_there}
 use Rattle.jd_first_java.specs.Programs.{IsProgram, Program}
 use Rattle.jd_first_oblig.specs.Special.{parameter_constant}
@@ -97,7 +94,7 @@ moment_has q is es m = record {
 pub condition_ensures : (q : Program) → IsProgram q → Ensure q (condition_formula q.ensures_ ∷ [])
 condition_ensures q is g m =
     let one = condition_means g 0 q is.left is.right
-        (interpretation_of (known_contract q (condition_formula q.ensures_ ∷ [])) m)
-        (state_of (known_contract q (condition_formula q.ensures_ ∷ [])) m)
-        m (moment_has q is (condition_formula q.ensures_ ∷ []) m) in
+    (interpretation_of (known_contract q (condition_formula q.ensures_ ∷ [])) m)
+    (state_of (known_contract q (condition_formula q.ensures_ ∷ [])) m)
+    m (moment_has q is (condition_formula q.ensures_ ∷ []) m) in
     ((λ h. one.0 h.0), (λ e. (one.1 e, tt)))

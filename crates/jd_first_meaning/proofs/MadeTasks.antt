@@ -4,13 +4,12 @@ use Rattle.std.specs.Prelude.{if◌then◌else◌}
 use Rattle.std.proofs.lemmas.Bool.{ne_eqb}
 use Rattle.std.proofs.lemmas.List.Elements.{All-nil, All-map}
 use Rattle.std.specs.List.{All}
-use Rattle.jd_base.specs.declared.sort.Sort.TheVariants.{Int as IntSort}
-use Rattle.jd_syntax.specs.Names.{Name, Declared}
+use Rattle.jd_syntax.specs.Names.{Declared}
 use Rattle.jd_syntax.specs.CodeNames.{is_special}
 use Rattle.jd_model.specs.Cases.{Case, SpecifiedProgram}
 use Rattle.jd_model.specs.ContractForms.{PlainBody}
 use Rattle.jd_model.specs.Tables.{CaseAt, body_in, BodyAt, TablesStandFor}
-use Rattle.jd_sequent.specs.TaskMeaning.{IsCaseOf, LoopIsKnown, TaskStandsFor}
+use Rattle.jd_sequent.specs.TaskMeaning.{LoopIsKnown, TaskStandsFor}
 use Rattle.jd_first_java.specs.Programs.{IsIdentifier, IsProgram, Program}
 use Rattle.jd_first_oblig.specs.Special.{parameter_variable}
 use Rattle.jd_first_oblig.specs.Obligations.{declared_parameter, case_of, body_of, contracts_of, obligation_of}

@@ -1,5 +1,5 @@
 -- Each program has a meaning.
-use Rattle.std.proofs.Common.{◌≡◌, ℕ, suc, nat_eq, false, None, [], ◌∷◌, refl}
+use Rattle.std.proofs.Common.{nat_eq, false, None, [], ◌∷◌, refl}
 use Rattle.jd_model.specs.Programs.{IntType}
 use Rattle.jd_model.specs.Cases.{SpecifiedProgram}
 use Rattle.jd_oblig.specs.IdentityExample.{only_first}

@@ -1,24 +1,22 @@
 -- What a condition's operands are in an interpretation that holds the arguments, and in the one of a moment.
-use Rattle.std.proofs.Common.{◌≡◌, ◌≢◌, ◌↔◌, ℕ, zero, suc, ◌<◌, Bool, true, false, ℤ, pos, List, [], ◌∷◌, length, map, slice_index_or, refl, sym, ap, ◌∙◌, subst, true≢false, arith}
+use Rattle.std.proofs.Common.{◌≡◌, ◌↔◌, ℕ, zero, suc, ◌<◌, Bool, true, false, pos, List, [], ◌∷◌, length, map, slice_index_or, refl, sym, ap, ◌∙◌, true≢false, arith}
 use Rattle.std.specs.Prelude.{if◌then◌else◌}
 use Rattle.std.specs.List.{Contains}
 use Rattle.std.specs.Str.{bytes_eq}
 use Rattle.std.proofs.lemmas.Slice.Eq.{bytes_eq-Decides}
-use Rattle.jd_base.specs.declared.sort.Sort.TheVariants.{Int as IntSort}
-use Rattle.jd_syntax.specs.Names.{Name}
 use Rattle.jd_heap.specs.Values.{Value, IntValue, as_int}
 use Rattle.jd_model.specs.SpecialNames.{int_result}
 use Rattle.jd_model.specs.States.{State, read, write}
 use Rattle.jd_model.specs.Runs.{with_values}
 use Rattle.jd_model.specs.TermValues.{value}
 use Rattle.jd_model.specs.Truth.{Setting, Truth}
-use Rattle.jd_model.specs.Occurrences.{NotIn, AllApart}
+use Rattle.jd_model.specs.Occurrences.{AllApart}
 use Rattle.jd_model.specs.EntryExit.{Moment}
 use Rattle.jd_model.proofs.Writes.{flip_apart, read_back, read_here, read_there, read_other}
-use Rattle.jd_first_java.specs.Programs.{Operand, Parameter, Literal, Result, Condition, IsOperand, Program}
+use Rattle.jd_first_java.specs.Programs.{Operand, Parameter, Literal, Result, IsOperand, Program}
 use Rattle.jd_first_oblig.specs.Special.{parameter_constant}
 use Rattle.jd_first_oblig.specs.Obligations.{operand_term, condition_formula}
-use Rattle.jd_first_meaning.specs.SpelledPrograms.{compare, argument_of, operand_value, is_ensured}
+use Rattle.jd_first_meaning.specs.SpelledPrograms.{argument_of, operand_value, is_ensured}
 use Rattle.jd_first_meaning.proofs.Comparisons.{comparison_means}
 use Rattle.jd_first_meaning.proofs.ParameterNames.{constants_apart}
 

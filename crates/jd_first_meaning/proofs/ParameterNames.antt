@@ -1,23 +1,21 @@
 -- The variables and the constants of parameters: their names, and that no two of them are the same.
-use Rattle.std.proofs.Common.{◌≡◌, ◌≢◌, ℕ, zero, suc, ◌<◌, nat_eq, Bool, true, false, ◌&&◌, List, [], ◌∷◌, ◌++◌, length, map, refl, sym, ap, ◌∙◌, subst, true≢false, arith}
+use Rattle.std.proofs.Common.{◌≡◌, ◌≢◌, ℕ, nat_eq, Bool, true, false, ◌&&◌, List, [], ◌∷◌, ◌++◌, map, refl, sym, ap, ◌∙◌, true≢false}
 use Rattle.std.specs.Prelude.{codes, if◌then◌else◌}
 use Rattle.std.specs.List.{All, AllPass, AllPairs, AllByRecursion, IsDistinct}
 use Rattle.std.specs.Str.{bytes_eq}
-use Rattle.std.proofs.lemmas.Bool.{eqb-true, ne_eqb}
+use Rattle.std.proofs.lemmas.Bool.{ne_eqb}
 use Rattle.std.proofs.lemmas.List.Elements.{All-head, All-tail}
 use Rattle.std.proofs.lemmas.Map.Made.{IsDistinct-from_AllPairs}
 use Rattle.std.proofs.lemmas.Slice.Eq.{bytes_eq-Decides}
 use Rattle.jd_base.specs.declared.sort.Sort.TheVariants.{Int as IntSort}
-use Rattle.jd_syntax.specs.Names.{Name}
 use Rattle.jd_syntax.specs.CodeNames.{same_name, is_special}
-use Rattle.jd_syntax.proofs.NameTests.{same_name_decides}
 use Rattle.jd_model.specs.SpecialNames.{entry_heap, entry_measure, receiver}
 use Rattle.jd_model.specs.Occurrences.{NotIn, AllApart, AllOf}
 use Rattle.jd_model.specs.ResolvedBodies.{NotSpecial}
 use Rattle.jd_model.specs.Tables as tables
 use Rattle.jd_model.specs.Tables.{constants_of_parameters, source_name}
 use Rattle.jd_first_java.specs.Alphabet.{is_name_byte}
-use Rattle.jd_first_java.specs.Programs.{IsIdentifier, AreParameters}
+use Rattle.jd_first_java.specs.Programs.{IsIdentifier}
 use Rattle.jd_first_oblig.specs.Special.{printed_name, parameter_variable, parameter_constant}
 
 -- ---- a name's bytes
