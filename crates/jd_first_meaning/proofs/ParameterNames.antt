@@ -1,0 +1,94 @@
+-- The variables and the constants of parameters: their names, and that no two of them are the same.
+use Rattle.std.proofs.Common.{◌≡◌, ◌≢◌, ℕ, nat_eq, Bool, true, false, ◌&&◌, List, [], ◌∷◌, ◌++◌, map, refl, sym, ap, ◌∙◌, true≢false}
+use Rattle.std.specs.Prelude.{codes, if◌then◌else◌}
+use Rattle.std.specs.List.{All, AllPass, AllPairs, AllByRecursion, IsDistinct}
+use Rattle.std.specs.Str.{bytes_eq}
+use Rattle.std.proofs.lemmas.Bool.{ne_eqb}
+use Rattle.std.proofs.lemmas.List.Elements.{All-head, All-tail}
+use Rattle.std.proofs.lemmas.Map.Made.{IsDistinct-from_AllPairs}
+use Rattle.std.proofs.lemmas.Slice.Eq.{bytes_eq-Decides}
+use Rattle.jd_base.specs.declared.sort.Sort.TheVariants.{Int as IntSort}
+use Rattle.jd_syntax.specs.CodeNames.{same_name, is_special}
+use Rattle.jd_model.specs.SpecialNames.{entry_heap, entry_measure, receiver}
+use Rattle.jd_model.specs.Occurrences.{NotIn, AllApart, AllOf}
+use Rattle.jd_model.specs.ResolvedBodies.{NotSpecial}
+use Rattle.jd_model.specs.Tables as tables
+use Rattle.jd_model.specs.Tables.{constants_of_parameters, source_name}
+use Rattle.jd_first_java.specs.Alphabet.{is_name_byte}
+use Rattle.jd_first_java.specs.Programs.{IsIdentifier}
+use Rattle.jd_first_oblig.specs.Special.{printed_name, parameter_variable, parameter_constant}
+
+-- ---- a name's bytes
+
+-- a byte of a name is none that is no byte of names
+byte_apart : (b c : ℕ) → is_name_byte b ≡ true → is_name_byte c ≡ false → nat_eq b c ≡ false
+byte_apart b c p q = ne_eqb b c (λ e. true≢false (sym p ∙ ap is_name_byte e ∙ q))
+
+source_of_name : (w : List ℕ) → AllPass is_name_byte w → source_name w ≡ w
+source_of_name [] h = refl
+source_of_name (b ∷ w) h =
+    ap (λ t. if t then [] else (b ∷ source_name w)) (byte_apart b 39 (All-head (λ x. is_name_byte x ≡ true) b w h) refl)
+    ∙ ap (λ l. b ∷ l) (source_of_name w (All-tail (λ x. is_name_byte x ≡ true) b w h))
+
+source_of_printed : (w : List ℕ) → AllPass is_name_byte w → source_name (printed_name w) ≡ w
+source_of_printed w h = by (bytes_eq w (codes "created")) refl
+  where
+    by : (t : Bool) → bytes_eq w (codes "created") ≡ t → source_name (if t then codes "created'2" else w) ≡ w
+    by true e = sym ((bytes_eq-Decides w (codes "created")).0 e)
+    by false e = source_of_name w h
+
+name_not_special : (w : List ℕ) → AllPass is_name_byte w → is_special (record { text = w; sort = IntSort }) ≡ false
+name_not_special [] h = refl
+name_not_special (b ∷ w) h = byte_apart b 64 (All-head (λ x. is_name_byte x ≡ true) b w h) refl
+
+pub variable_not_special : (w : List ℕ) → AllPass is_name_byte w → is_special (parameter_variable w) ≡ false
+variable_not_special w h = by (bytes_eq w (codes "created"))
+  where
+    by : (t : Bool) → is_special (record { text = if t then codes "created'2" else w; sort = IntSort }) ≡ false
+    by true = refl
+    by false = name_not_special w h
+
+pub variables_not_special : (ps : List (List ℕ)) → All IsIdentifier ps → AllOf NotSpecial (map parameter_variable ps)
+variables_not_special [] h = tt
+variables_not_special (x ∷ xs) h = (variable_not_special x (All-head IsIdentifier x xs h).bytes, variables_not_special xs (All-tail IsIdentifier x xs h))
+
+-- ---- the constants
+
+-- the constant that the tables give a parameter's variable is the parameter's
+pub constant_of_variable : (w : List ℕ) → AllPass is_name_byte w → tables.parameter_constant (parameter_variable w) ≡ parameter_constant w
+constant_of_variable w h = λ i. record { text = codes "#i_" ++ source_of_printed w h i; sort = IntSort }
+
+pub constants_of_variables : (ps : List (List ℕ)) → All IsIdentifier ps → constants_of_parameters (map parameter_variable ps) ≡ map parameter_constant ps
+constants_of_variables [] h = refl
+constants_of_variables (x ∷ xs) h = λ i. constant_of_variable x (All-head IsIdentifier x xs h).bytes i ∷ constants_of_variables xs (All-tail IsIdentifier x xs h) i
+
+pub constants_apart : (v w : List ℕ) → bytes_eq v w ≡ false → same_name (parameter_constant v) (parameter_constant w) ≡ false
+constants_apart v w e = ap (λ b. b && true) e
+
+constant_not_in : (x : List ℕ) (ps : List (List ℕ)) → AllByRecursion (λ y. bytes_eq x y ≡ false) ps → NotIn (parameter_constant x) (map parameter_constant ps)
+constant_not_in x [] h = tt
+constant_not_in x (y ∷ ys) h = (constants_apart x y h.0, constant_not_in x ys h.1)
+
+distinct_constants : (ps : List (List ℕ)) → IsDistinct bytes_eq ps → AllApart (map parameter_constant ps)
+unfolding IsDistinct
+distinct_constants [] h = tt
+distinct_constants (x ∷ xs) h = (constant_not_in x xs h.0, distinct_constants xs h.1)
+
+pub all_constants_apart : (ps : List (List ℕ)) → AllPairs (λ x y. x ≢ y) ps → AllApart (map parameter_constant ps)
+all_constants_apart ps h = distinct_constants ps (IsDistinct-from_AllPairs bytes_eq-Decides ps h)
+
+-- no constant of a parameter is one of the entry
+measure_not_in : (ps : List (List ℕ)) → NotIn entry_measure (map parameter_constant ps)
+measure_not_in [] = tt
+measure_not_in (x ∷ xs) = (refl, measure_not_in xs)
+
+heap_not_in : (ps : List (List ℕ)) → NotIn entry_heap (map parameter_constant ps)
+heap_not_in [] = tt
+heap_not_in (x ∷ xs) = (refl, heap_not_in xs)
+
+receiver_not_in : (ps : List (List ℕ)) → NotIn receiver (map parameter_constant ps)
+receiver_not_in [] = tt
+receiver_not_in (x ∷ xs) = (refl, receiver_not_in xs)
+
+pub entry_apart : (ps : List (List ℕ)) → AllPairs (λ x y. x ≢ y) ps → AllApart (entry_measure ∷ entry_heap ∷ receiver ∷ map parameter_constant ps)
+entry_apart ps h = ((refl, (refl, measure_not_in ps)), ((refl, heap_not_in ps), (receiver_not_in ps, all_constants_apart ps h)))

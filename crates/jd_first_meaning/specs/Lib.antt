@@ -1,0 +1,2 @@
+pub mod SpelledPrograms
+pub mod ClosedPrograms
