@@ -1,2 +1,3 @@
+pub mod FirstBad
 pub mod TestRules
 pub mod Verdicts

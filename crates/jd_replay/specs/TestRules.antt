@@ -1,8 +1,9 @@
 -- A small set of rules, for the tests: it takes sequents with `true` alone on the right, which are valid.
-use Rattle.std.specs.Prelude.{◌≡◌, ◌<◌, ◌^◌, zero, suc, List, [], ◌∷◌, All, Option, Some, None, option_map, length}
+use Rattle.std.specs.Prelude.{◌≡◌, ◌<◌, ◌^◌, ℕ, zero, suc, List, [], ◌∷◌, All, Option, Some, None, option_map, length}
 use Rattle.std.proofs.Common.{refl, sym, ◌∙◌, subst, arith}
 use Rattle.jd_term.specs.Formulas.{PlainFormula, TrueFormula}
 use Rattle.jd_model.specs.Validity.{AllFalse}
+use Rattle.jd_sequent.specs.Rules.{IsLeastCause}
 use Rattle.jd_sequent.specs.Obligations.{PlainTask}
 use Rattle.jd_sequent.specs.TaskMeaning.{StepIsSound}
 use Rattle.jd_model.specs.declared.sequent.Side.{Side}
@@ -23,14 +24,21 @@ premises_on Right = record { left = only_true; right = only_true } ∷ record { 
 abbrev pub premises_at : Option PlainPlace → Option (List PlainSequent)
 premises_at place = option_map (λ p. premises_on p.side) place
 
+-- the one cause is the second: there is no place
+abbrev pub has_cause : Option PlainPlace → ℕ → Type 0
+has_cause place n = (n ≡ 2) × (premises_at place ≡ None)
+
 some_same : {A : Type 0} {x y : A} → Some x ≡ Some y → x ≡ y
 some_same h = cc
 
 none_some : {A : Type 0} {x : A} → None ≡ Some x → ⊥
 none_some h = cc
 
-pub no_cause : (o : Option PlainPlace) (ps : List PlainSequent) → premises_at o ≡ Some ps → premises_at o ≡ None → ⊥
-no_cause o ps a c = none_some (sym c ∙ a)
+pub no_cause : (o : Option PlainPlace) (ps : List PlainSequent) (n : ℕ) → premises_at o ≡ Some ps → has_cause o n → ⊥
+no_cause o ps n a c = none_some (sym c.1 ∙ a)
+
+pub least_cause : (o : Option PlainPlace) → premises_at o ≡ None → IsLeastCause (has_cause o) 2
+least_cause o none = ((refl, none), λ k some lt c. omega (arith, lt, c.0))
 
 pub one_way : (o : Option PlainPlace) (ps qs : List PlainSequent) → premises_at o ≡ Some ps → premises_at o ≡ Some qs → ps ≡ qs
 one_way o ps qs a b = some_same (sym a ∙ b)

@@ -1,7 +1,7 @@
 ghost use Rattle.std.specs.Prelude.{◌≡◌, [], IfOk, Some, None, map, option_map};
 ghost use Rattle.jd_model.specs.Sequents.{sequent_view, place_view};
 ghost use Rattle.jd_term.specs.Formulas.{formula_view};
-ghost use Rattle.jd_replay.specs.TestRules.{IsTaken, only_true, premises_at, no_cause, one_way, few, taken, taken_is_valid};
+ghost use Rattle.jd_replay.specs.TestRules.{IsTaken, only_true, premises_at, has_cause, no_cause, one_way, few, taken, taken_is_valid};
 
 use crate::{Cause, Verdict, replay};
 use jd_base::{ClassId, MethodId, NoMemory};
@@ -63,8 +63,9 @@ impl RuleSet for TestRules {
 
     ghost instance = { λ r t s p ps. premises_at p.place ≡ Some ps };
 
-    ghost cause = { λ r t s p n. premises_at p.place ≡ None };
+    ghost cause = { λ r t s p n. has_cause p.place n };
 
+    #[tactic(auto, using(crate::specs::TestRules::least_cause))]
     fn apply(
         &self,
         alloc: Global,
@@ -82,7 +83,7 @@ impl RuleSet for TestRules {
 
     ghost keeps = { λ r t s p ps a i. taken p.place ps i };
 
-    ghost has_no_cause = { λ r t s p ps n l c. no_cause p.place ps l.0 c };
+    ghost has_no_cause = { λ r t s p ps n l c. no_cause p.place ps n l.0 c };
 
     ghost one_way = { λ r t s p ps qs a b. one_way p.place ps qs a b };
 
@@ -196,6 +197,23 @@ fn scripts_are_replayed(rt: HostRuntime) -> Result<(), Fail> {
             "bad 3 has 1 for 2",
         ),
         (&[(b'R', 2), (b'-', 0), (b'?', 0)], "bad 2 NoFormula"),
+        (
+            &[(b'R', 2), (b'L', 0), (b'R', 2), (b'?', 0), (b'?', 0)],
+            "bad 4 NoFormula",
+        ),
+        (
+            &[(b'R', 2), (b'R', 2), (b'L', 0), (b'?', 0), (b'L', 0)],
+            "bad 4 NoFormula",
+        ),
+        (
+            &[(b'R', 2), (b'L', 1), (b'?', 0), (b'?', 0)],
+            "bad 2 has 1 for 0",
+        ),
+        (
+            &[(b'R', 2), (b'?', 0), (b'L', 1), (b'-', 0)],
+            "bad 2 NoFormula",
+        ),
+        (&[(b'?', 1), (b'L', 0)], "bad 1 NoFormula"),
     ] {
         let script = script(alloc, told)?;
         let verdict = replay(alloc, &TestRules, &task, &goal, &script)?;

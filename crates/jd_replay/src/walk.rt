@@ -23,7 +23,7 @@ fn push_premises(stack: &mut Vec<Sequent>, mut premises: Vec<Sequent>) -> Result
 
 // What a refusal of the rule means; want of memory is no verdict.
 fn refused(bad: Bad, node: u64) -> Result<Verdict, NoMemory>
-    ensures { IfOk result (λ verdict. IsRefusal bad verdict) }
+    ensures { IfOk result (λ verdict. IsRefusal bad node verdict) }
 {
     match bad {
         Bad::NoMemory => Err(NoMemory),
@@ -44,7 +44,7 @@ fn replayed<R: RuleSet>(
 ) -> Result<Verdict, NoMemory>
     requires { R.accepts rules.now (task_view task.now) (sequent_view goal) }
     ensures { IfOk result
-        (λ verdict. IsVerdict (LeadsWithinLimits (R.instance rules.now (task_view task.now))) (tree_of (map node_view script.now.nodes.items)) (sequent_view goal) verdict) }
+        (λ verdict. IsVerdict (LeadsWithinLimits (R.instance rules.now (task_view task.now))) (R.cause rules.now (task_view task.now)) (tree_of (map node_view script.now.nodes.items)) (sequent_view goal) verdict) }
 {
     let mut stack = Vec::new(alloc);
     let mut goals = Vec::new(alloc);
@@ -93,7 +93,7 @@ pub fn replay<R: RuleSet>(
 ) -> Result<Verdict, NoMemory>
     requires { R.accepts rules.now (task_view task.now) (sequent_view goal.now) }
     ensures verdict { IfOk result
-        (λ verdict. IsVerdict (LeadsWithinLimits (R.instance rules.now (task_view task.now))) (tree_of (map node_view script.now.nodes.items)) (sequent_view goal.now) verdict) }
+        (λ verdict. IsVerdict (LeadsWithinLimits (R.instance rules.now (task_view task.now))) (R.cause rules.now (task_view task.now)) (tree_of (map node_view script.now.nodes.items)) (sequent_view goal.now) verdict) }
     ensures closed { IfOk result (ClosedIsValid (task_view task.now) (sequent_view goal.now)) }
 {
     let goal = goal.copy(alloc)?;
