@@ -3,7 +3,6 @@ use Rattle.std.specs.Prelude.{◌≡◌, ◌<◌, ◌^◌, ℕ, zero, suc, List,
 use Rattle.std.proofs.Common.{refl, sym, ◌∙◌, subst, arith}
 use Rattle.jd_term.specs.Formulas.{PlainFormula, TrueFormula}
 use Rattle.jd_model.specs.Validity.{AllFalse}
-use Rattle.jd_sequent.specs.Rules.{IsLeastCause}
 use Rattle.jd_sequent.specs.Obligations.{PlainTask}
 use Rattle.jd_sequent.specs.TaskMeaning.{StepIsSound}
 use Rattle.jd_model.specs.declared.sequent.Side.{Side}
@@ -36,9 +35,6 @@ none_some h = cc
 
 pub no_cause : (o : Option PlainPlace) (ps : List PlainSequent) (n : ℕ) → premises_at o ≡ Some ps → has_cause o n → ⊥
 no_cause o ps n a c = none_some (sym c.1 ∙ a)
-
-pub least_cause : (o : Option PlainPlace) → premises_at o ≡ None → IsLeastCause (has_cause o) 2
-least_cause o none = ((refl, none), λ k some lt c. omega (arith, lt, c.0))
 
 pub one_way : (o : Option PlainPlace) (ps qs : List PlainSequent) → premises_at o ≡ Some ps → premises_at o ≡ Some qs → ps ≡ qs
 one_way o ps qs a b = some_same (sym a ∙ b)

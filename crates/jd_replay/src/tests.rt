@@ -65,7 +65,6 @@ impl RuleSet for TestRules {
 
     ghost cause = { λ r t s p n. has_cause p.place n };
 
-    #[tactic(auto, using(crate::specs::TestRules::least_cause))]
     fn apply(
         &self,
         alloc: Global,

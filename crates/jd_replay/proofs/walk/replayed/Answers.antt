@@ -1,6 +1,5 @@
-use Rattle.std.proofs.Common.{IfOk, Bool, false, ◌∙◌, ◌++◌, [], ◌∷◌, ◌<◌, ap, arith, option_map, length, sym, ◌==◌, ◌≡◌, true, ℕ, refl}
+use Rattle.std.proofs.Common.{Bool, false, ◌∙◌, ◌++◌, [], ◌∷◌, ◌<◌, ap, arith, option_map, length, sym, ◌==◌, ◌≡◌, true, ℕ, refl}
 use Rattle.std.proofs.lemmas.Bool.Decides.{nat_tests}
-use Rattle.jd_model.specs.Sequents.{sequent_view}
 use Rattle.jd_sequent.specs.Steps.{step_view}
 use Rattle.jd_sequent.specs.Obligations.{task_view}
 use Rattle.jd_replay.proofs.Refused.{refused_turn}
