@@ -4,7 +4,7 @@ use Rattle.jd_model.specs.Sequents.{PlainSequent}
 use Rattle.jd_sequent.specs.Trees.{PlainStep}
 use Rattle.jd_sequent.specs.Obligations.{PlainTask}
 use Rattle.jd_sequent.specs.Rules.{LeadsWithinLimits}
-use Rattle.jd_first_rules.specs.Instances.{IsInstance}
+use Rattle.jd_first_steps.specs.Instances.{IsInstance}
 use Rattle.jd_first_java.specs.Programs.{Program}
 use Rattle.jd_first_java.specs.Reads as java
 use Rattle.jd_first_script.specs.Scripts as script
