@@ -39,7 +39,7 @@ one_only : {A : Type 0} (f : ℕ → Option A) (a : A) → f 0 ≡ Some a → ((
 one_only f a e h zero = e
 one_only f a e h (suc n) = h n
 
-pub of_first : {A : Type 0} (f : ℕ → Option A) (a : A) → f 0 ≡ Some a → ((n : ℕ) → f (suc n) ≡ None) → (P : A → Type 0) → P a → (n : ℕ) (b : A) → f n ≡ Some b → P b
+of_first : {A : Type 0} (f : ℕ → Option A) (a : A) → f 0 ≡ Some a → ((n : ℕ) → f (suc n) ≡ None) → (P : A → Type 0) → P a → (n : ℕ) (b : A) → f n ≡ Some b → P b
 of_first f a e h P has n b found = of_one P a has n b (sym (one_only f a e h n) ∙ found)
 
 -- ---- the body

@@ -5,4 +5,4 @@ mod KnownContracts
 mod Meanings
 mod CaseStands
 mod MadeTasks
-mod KeptPrograms
+pub mod KeptPrograms

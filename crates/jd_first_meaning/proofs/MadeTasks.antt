@@ -48,7 +48,7 @@ module _ (q : Program) (ok : IsProgram q) (p : SpecifiedProgram) (is : IsProgram
   tables_stand = record { cases = cases_stand; invariants = λ c. sym (is.invariants c); bodies = bodies_stand }
 
   -- the case that is found is the known one
-  pub found_case : (c : Case) → p.case 0 ≡ Some c → c ≡ case_with (known_contract q (known_case q p is).clauses)
+  found_case : (c : Case) → p.case 0 ≡ Some c → c ≡ case_with (known_contract q (known_case q p is).clauses)
   found_case c has = ap (λ o. elim o [ None ↦ c | Some k ↦ k ]) (sym has ∙ (known_case q p is).the_case)
 
   task_stands : (c : Case) → p.case 0 ≡ Some c → TaskStandsFor (task_of q) p c

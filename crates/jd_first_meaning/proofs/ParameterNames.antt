@@ -8,6 +8,7 @@ use Rattle.std.proofs.lemmas.List.Elements.{All-head, All-tail}
 use Rattle.std.proofs.lemmas.Map.Made.{IsDistinct-from_AllPairs}
 use Rattle.std.proofs.lemmas.Slice.Eq.{bytes_eq-Decides}
 use Rattle.jd_base.specs.declared.sort.Sort.TheVariants.{Int as IntSort}
+use Rattle.jd_syntax.specs.Names.{Name}
 use Rattle.jd_syntax.specs.CodeNames.{same_name, is_special}
 use Rattle.jd_model.specs.SpecialNames.{entry_heap, entry_measure, receiver}
 use Rattle.jd_model.specs.Occurrences.{NotIn, AllApart, AllOf}
@@ -77,18 +78,11 @@ distinct_constants (x ∷ xs) h = (constant_not_in x xs h.0, distinct_constants 
 pub all_constants_apart : (ps : List (List ℕ)) → AllPairs (λ x y. x ≢ y) ps → AllApart (map parameter_constant ps)
 all_constants_apart ps h = distinct_constants ps (IsDistinct-from_AllPairs bytes_eq-Decides ps h)
 
--- no constant of a parameter is one of the entry
-measure_not_in : (ps : List (List ℕ)) → NotIn entry_measure (map parameter_constant ps)
-measure_not_in [] = tt
-measure_not_in (x ∷ xs) = (refl, measure_not_in xs)
-
-heap_not_in : (ps : List (List ℕ)) → NotIn entry_heap (map parameter_constant ps)
-heap_not_in [] = tt
-heap_not_in (x ∷ xs) = (refl, heap_not_in xs)
-
-receiver_not_in : (ps : List (List ℕ)) → NotIn receiver (map parameter_constant ps)
-receiver_not_in [] = tt
-receiver_not_in (x ∷ xs) = (refl, receiver_not_in xs)
+-- a name that is no parameter's constant
+none_of : (x : Name) → ((w : List ℕ) → same_name x (parameter_constant w) ≡ false) → (ps : List (List ℕ)) → NotIn x (map parameter_constant ps)
+none_of x other [] = tt
+none_of x other (w ∷ ws) = (other w, none_of x other ws)
 
 pub entry_apart : (ps : List (List ℕ)) → AllPairs (λ x y. x ≢ y) ps → AllApart (entry_measure ∷ entry_heap ∷ receiver ∷ map parameter_constant ps)
-entry_apart ps h = ((refl, (refl, measure_not_in ps)), ((refl, heap_not_in ps), (receiver_not_in ps, all_constants_apart ps h)))
+entry_apart ps h =
+    ((refl, (refl, none_of entry_measure (λ w. refl) ps)), ((refl, none_of entry_heap (λ w. refl) ps), (none_of receiver (λ w. refl) ps, all_constants_apart ps h)))

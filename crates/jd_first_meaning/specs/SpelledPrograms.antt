@@ -78,8 +78,8 @@ operand_value parameters m Result = as_int m.result
 abbrev pub is_ensured : Program → Moment → Bool
 is_ensured q m = compare q.ensures_.comparison (operand_value q.parameters m q.ensures_.left) (operand_value q.parameters m q.ensures_.right)
 
--- ---- the contract: what no clause says has the manual's default (JML Reference Manual, 9.9): any end is allowed, each location
--- may be assigned, and the run has to end
+-- ---- the contract: its one clause. As no other is written, each end is allowed, each location may be assigned, and the run has to
+-- end (JML Reference Manual, 9.9; no `throws` is read, so that none narrows what may be thrown)
 
 abbrev pub an_int : DeclaredType
 an_int = record { type = IntType; nullable = false }

@@ -6,9 +6,9 @@ use Rattle.jd_sequent.specs.Limits.{IsWithinLimits}
 use Rattle.jd_sequent.specs.Rules.{IsCaused}
 use Rattle.jd_sequent.specs.declared.bad.Bad.{Bad}
 use Rattle.jd_sequent.specs.declared.bad.Bad.TheVariants.{UnknownRule, NoFormula, NoPlace, WrongPlaceKind, NoMatch, MissingInst, BadInst, NoAssume, NotFresh, SideCondition, NoContract, NoDecreases, TooLarge, NoMemory}
-use Rattle.jd_first_rules.specs.declared.rules.FirstRule.{FirstRule}
-use Rattle.jd_first_rules.specs.Names.{rule_name, rule_named}
-use Rattle.jd_first_rules.specs.Instances.{IsInstance}
+use Rattle.jd_first_steps.specs.declared.rules.FirstRule.{FirstRule}
+use Rattle.jd_first_steps.specs.Names.{rule_name, rule_named}
+use Rattle.jd_first_steps.specs.Instances.{IsInstance}
 use Rattle.jd_first_rules.specs.Steps.{IsStep}
 use Rattle.jd_first_rules.specs.Laws.{IsNoInstance, named_back, one_way}
 

@@ -8,11 +8,11 @@ use Rattle.jd_model.specs.Places.{put_at}
 use Rattle.jd_sequent.specs.Trees.{PlainStep}
 use Rattle.jd_sequent.specs.declared.bad.Bad.{Bad}
 use Rattle.jd_sequent.specs.declared.bad.Bad.TheVariants.{NoMemory}
-use Rattle.jd_first_rules.specs.declared.rules.FirstRule.{FirstRule}
-use Rattle.jd_first_rules.specs.declared.rules.FirstRule.TheVariants.{Close, CloseTrue, NotLeft, AndLeft, AndRight, ImpRight, EqRefl, SetSimple, FrameReturn, CatchEmpty, EmptyCode, Simplify}
+use Rattle.jd_first_steps.specs.declared.rules.FirstRule.{FirstRule}
+use Rattle.jd_first_steps.specs.declared.rules.FirstRule.TheVariants.{Close, CloseTrue, NotLeft, AndLeft, AndRight, ImpRight, EqRefl, SetSimple, FrameReturn, CatchEmpty, EmptyCode, Simplify}
 use Rattle.jd_first_rules.specs.declared.rules.Kind.{Kind}
 use Rattle.jd_first_rules.specs.declared.rules.Kind.TheVariants.{Closing, Whole, Anywhere}
-use Rattle.jd_first_rules.specs.Instances.{IsClose, IsRow, IsRewrite}
+use Rattle.jd_first_steps.specs.Instances.{IsClose, IsRow, IsRewrite}
 use Rattle.jd_first_rules.specs.Steps.{kind_of, IsStep}
 use Rattle.jd_first_rules.specs.StepKinds.{IsOfKind, of_kind, to_step}
 use Rattle.jd_first_rules.specs.Results.{Gives}

@@ -2,7 +2,7 @@
 use Rattle.std.proofs.Common.{◌≡◌, ℕ, zero, suc, ◌+◌, ◌<◌, List, [], ◌∷◌, ◌++◌, length, map, take, drop, refl, sym, ap, ◌∙◌, arith, add-one, append_assoc}
 use Rattle.jd_term.specs.declared.formula.Formula.{Formula}
 use Rattle.jd_term.specs.Formulas.{PlainFormula, formula_view}
-use Rattle.jd_first_rules.specs.Rows.{with_instead}
+use Rattle.jd_first_steps.specs.Rows.{with_instead}
 
 instead_parts : (fs : List Formula) (k : ℕ) (new : List PlainFormula) → k < length fs → with_instead (map formula_view fs) (suc k) new ≡ map formula_view (take k fs) ++ (new ++ map formula_view (drop (suc k) fs))
 instead_parts [] k new lt = absurd (omega arith)

@@ -6,9 +6,9 @@ use Rattle.jd_term.specs.Terms.{PlainTerm}
 use Rattle.jd_term.specs.Formulas.{PlainFormula, Modal}
 use Rattle.jd_term.specs.declared.formula.Modality.{Modality}
 use Rattle.jd_model.specs.Contexts.{Context, Here, InBlock, InFrame, InCatch, InFinally, chain, fill, one}
-use Rattle.jd_first_rules.specs.declared.rules.FirstRule.{FirstRule}
-use Rattle.jd_first_rules.specs.declared.rules.FirstRule.TheVariants.{SetSimple, FrameReturn, CatchEmpty}
-use Rattle.jd_first_rules.specs.Rewrites.{simple_term, IsSetSimple, IsFrameReturn, IsCatchEmpty}
+use Rattle.jd_first_steps.specs.declared.rules.FirstRule.{FirstRule}
+use Rattle.jd_first_steps.specs.declared.rules.FirstRule.TheVariants.{SetSimple, FrameReturn, CatchEmpty}
+use Rattle.jd_first_steps.specs.Rewrites.{simple_term, IsSetSimple, IsFrameReturn, IsCatchEmpty}
 use Rattle.jd_first_rules.specs.Focus.{Effect, return_effect, nothing_effect, at_stmt, first_some, followed, in_block, in_frame, in_catch, in_finally, at_focus, within, with_update, effected, executed}
 
 -- ---- a statement at a focus is found

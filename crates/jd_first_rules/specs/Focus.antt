@@ -6,9 +6,9 @@ use Rattle.jd_term.specs.Terms.{PlainTerm}
 use Rattle.jd_term.specs.Formulas.{PlainFormula, Equal, Updated, Modal}
 use Rattle.jd_term.specs.declared.formula.Modality.{Modality}
 use Rattle.jd_model.specs.Contexts.{chain, one}
-use Rattle.jd_first_rules.specs.declared.rules.FirstRule.{FirstRule}
-use Rattle.jd_first_rules.specs.declared.rules.FirstRule.TheVariants.{SetSimple, FrameReturn, CatchEmpty}
-use Rattle.jd_first_rules.specs.Rewrites.{simple_term}
+use Rattle.jd_first_steps.specs.declared.rules.FirstRule.{FirstRule}
+use Rattle.jd_first_steps.specs.declared.rules.FirstRule.TheVariants.{SetSimple, FrameReturn, CatchEmpty}
+use Rattle.jd_first_steps.specs.Rewrites.{simple_term}
 
 -- an update before the modality, where there is one, and the code in the modality
 pub record Effect : Type 0 where

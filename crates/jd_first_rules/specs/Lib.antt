@@ -2,12 +2,8 @@ pub mod Effects
 pub mod Executions
 pub mod Focus
 pub mod Goals
-pub mod Instances
 pub mod Laws
-pub mod Names
 pub mod Results
-pub mod Rewrites
-pub mod Rows
 pub mod StepKinds
 pub mod StepLemmas
 pub mod Steps

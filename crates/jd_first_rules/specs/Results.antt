@@ -7,8 +7,8 @@ use Rattle.jd_model.specs.declared.sequent.Sequent.{Sequent}
 use Rattle.jd_model.specs.Sequents.{PlainSequent, sequent_view}
 use Rattle.jd_sequent.specs.declared.bad.Bad.{Bad}
 use Rattle.jd_sequent.specs.declared.bad.Bad.TheVariants.{NoMemory}
-use Rattle.jd_first_rules.specs.declared.rules.FirstRule.{FirstRule}
-use Rattle.jd_first_rules.specs.Rewrites.{Rewrites}
+use Rattle.jd_first_steps.specs.declared.rules.FirstRule.{FirstRule}
+use Rattle.jd_first_steps.specs.Rewrites.{Rewrites}
 
 -- the formula that the rule puts for another, or that it puts none
 abbrev pub IsRewriting : FirstRule → PlainFormula → Option Formula → Type 0

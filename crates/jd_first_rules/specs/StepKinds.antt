@@ -3,11 +3,11 @@ use Rattle.std.proofs.Common.{◌≡◌, List, None, Some, ⊎_elim, inl, inr}
 use Rattle.std.specs.Prelude.{◌⊎◌}
 use Rattle.jd_model.specs.Sequents.{PlainSequent}
 use Rattle.jd_sequent.specs.Trees.{PlainStep}
-use Rattle.jd_first_rules.specs.declared.rules.FirstRule.{FirstRule}
-use Rattle.jd_first_rules.specs.declared.rules.FirstRule.TheVariants.{Close, CloseTrue, NotLeft, AndLeft, AndRight, ImpRight, EqRefl, SetSimple, FrameReturn, CatchEmpty, EmptyCode, Simplify}
+use Rattle.jd_first_steps.specs.declared.rules.FirstRule.{FirstRule}
+use Rattle.jd_first_steps.specs.declared.rules.FirstRule.TheVariants.{Close, CloseTrue, NotLeft, AndLeft, AndRight, ImpRight, EqRefl, SetSimple, FrameReturn, CatchEmpty, EmptyCode, Simplify}
 use Rattle.jd_first_rules.specs.declared.rules.Kind.{Kind}
 use Rattle.jd_first_rules.specs.declared.rules.Kind.TheVariants.{Closing, Whole, Anywhere}
-use Rattle.jd_first_rules.specs.Instances.{IsClose, IsRow, IsRewrite}
+use Rattle.jd_first_steps.specs.Instances.{IsClose, IsRow, IsRewrite}
 use Rattle.jd_first_rules.specs.Steps.{kind_of, IsStep}
 
 -- what a step of a kind is

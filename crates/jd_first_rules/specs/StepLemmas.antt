@@ -8,12 +8,12 @@ use Rattle.jd_model.specs.declared.sequent.Side.TheVariants.{Left, Right}
 use Rattle.jd_model.specs.Sequents.{PlainSequent, PlainPlace}
 use Rattle.jd_model.specs.Places.{Part, FormulaPart, TermPart, LocPart, on_side, numbered, at_place, put_at, IsFormulaPlace}
 use Rattle.jd_sequent.specs.Trees.{PlainStep}
-use Rattle.jd_first_rules.specs.declared.rules.FirstRule.{FirstRule}
-use Rattle.jd_first_rules.specs.declared.rules.FirstRule.TheVariants.{Close, CloseTrue, NotLeft, AndLeft, AndRight, ImpRight, EqRefl, SetSimple, FrameReturn, CatchEmpty, EmptyCode, Simplify}
+use Rattle.jd_first_steps.specs.declared.rules.FirstRule.{FirstRule}
+use Rattle.jd_first_steps.specs.declared.rules.FirstRule.TheVariants.{Close, CloseTrue, NotLeft, AndLeft, AndRight, ImpRight, EqRefl, SetSimple, FrameReturn, CatchEmpty, EmptyCode, Simplify}
 use Rattle.jd_first_rules.specs.declared.rules.Kind.TheVariants.{Closing, Whole, Anywhere}
-use Rattle.jd_first_rules.specs.Rows.{Goal, row_goals, goal_premise}
-use Rattle.jd_first_rules.specs.Rewrites.{Rewrites}
-use Rattle.jd_first_rules.specs.Instances.{IsClose, IsRow, IsRewrite}
+use Rattle.jd_first_steps.specs.Rows.{Goal, row_goals, goal_premise}
+use Rattle.jd_first_steps.specs.Rewrites.{Rewrites}
+use Rattle.jd_first_steps.specs.Instances.{IsClose, IsRow, IsRewrite}
 use Rattle.jd_first_rules.specs.Steps.{same_side, is_nil, whole_index, assumed_index, close_pair, whole_at, whole_formula, of_formula, any_at, any_formula, kind_of, IsStep}
 
 no_some : {A : Type 0} {x : A} → None ≡ Some x → ⊥

@@ -6,11 +6,11 @@ use Rattle.jd_model.specs.declared.sequent.Side.TheVariants.{Left, Right}
 use Rattle.jd_model.specs.Sequents.{PlainSequent, PlainPlace}
 use Rattle.jd_model.specs.Places.{Part, FormulaPart, TermPart, LocPart, on_side, numbered, at_place}
 use Rattle.jd_sequent.specs.Trees.{PlainStep}
-use Rattle.jd_first_rules.specs.declared.rules.FirstRule.{FirstRule}
-use Rattle.jd_first_rules.specs.declared.rules.FirstRule.TheVariants.{Close, CloseTrue, NotLeft, AndLeft, AndRight, ImpRight, EqRefl, SetSimple, FrameReturn, CatchEmpty, EmptyCode, Simplify}
+use Rattle.jd_first_steps.specs.declared.rules.FirstRule.{FirstRule}
+use Rattle.jd_first_steps.specs.declared.rules.FirstRule.TheVariants.{Close, CloseTrue, NotLeft, AndLeft, AndRight, ImpRight, EqRefl, SetSimple, FrameReturn, CatchEmpty, EmptyCode, Simplify}
 use Rattle.jd_first_rules.specs.declared.rules.Kind.{Kind}
 use Rattle.jd_first_rules.specs.declared.rules.Kind.TheVariants.{Closing, Whole, Anywhere}
-use Rattle.jd_first_rules.specs.Instances.{IsClose, IsRow, IsRewrite}
+use Rattle.jd_first_steps.specs.Instances.{IsClose, IsRow, IsRewrite}
 
 abbrev pub same_side : Side → Side → Bool
 same_side Left Left = true

@@ -3,9 +3,10 @@ ghost use Rattle.jd_sequent.specs.declared.bad.Bad.TheVariants.{NoMemory as OutO
 
 use crate::rewrite::rewritten;
 use crate::rows::goals_of;
-use crate::rules::{FirstRule, Kind};
+use crate::rules::Kind;
 use crate::step::{is_side, kind};
 use jd_base::NoMemory;
+use jd_first_steps::FirstRule;
 use jd_model::{Node, Place, Sequent, Side, at, formula_numbered, formulas_on};
 use jd_sequent::{Bad, Step};
 use jd_term::Formula;

@@ -4,13 +4,13 @@ ghost use Rattle.jd_syntax.specs.Codes.{stmts_of, Done, Set};
 ghost use Rattle.jd_syntax.specs.CodeViews.{expr_view, stmt_view, code_view};
 ghost use Rattle.jd_term.specs.TermViews.{term_view};
 ghost use Rattle.jd_model.specs.Contexts.{chain, one};
-ghost use Rattle.jd_first_rules.specs.Rewrites.{simple_term};
+ghost use Rattle.jd_first_steps.specs.Rewrites.{simple_term};
 ghost use Rattle.jd_first_rules.specs.Focus.{at_stmt, at_focus, within, behind_first, followed, in_block, in_frame, in_catch, in_finally, return_effect, nothing_effect};
 ghost use Rattle.jd_first_rules.specs.Effects.{effect_view};
 
 use crate::parts::{alone, chained, no_statement};
-use crate::rules::FirstRule;
 use jd_base::NoMemory;
+use jd_first_steps::FirstRule;
 use jd_syntax::{Code, CodeExpr, CodeStmt, VarId};
 use jd_term::{Elementary, Term};
 use std::alloc::Global;

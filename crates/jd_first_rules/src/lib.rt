@@ -13,5 +13,6 @@ mod step;
 #[cfg(test)]
 mod tests;
 
-pub use rules::{FirstRule, Kind};
+pub use jd_first_steps::FirstRule;
+pub use rules::Kind;
 pub use set::FirstRules;

@@ -1,7 +1,7 @@
 ghost use Rattle.std.specs.Prelude.{◌≡◌, IfSome};
-ghost use Rattle.jd_first_rules.specs.Names.{rule_name, rule_named};
+ghost use Rattle.jd_first_steps.specs.Names.{rule_name, rule_named};
 
-use crate::rules::FirstRule;
+use jd_first_steps::FirstRule;
 
 /// The rule of a name; `None` where no rule has it.
 pub fn named(name: &[u8]) -> Option<FirstRule>

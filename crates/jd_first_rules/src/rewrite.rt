@@ -4,11 +4,11 @@ ghost use Rattle.jd_term.specs.Formulas.{formula_view};
 ghost use Rattle.jd_first_rules.specs.Focus.{executed, emptied, effected, equal_sides};
 ghost use Rattle.jd_first_rules.specs.Effects.{effect_view};
 ghost use Rattle.jd_first_rules.specs.Results.{IsRewriting};
-ghost use Rattle.jd_first_rules.specs.declared.rules.FirstRule.TheVariants.{EqRefl as Reflexivity, EmptyCode as Emptiness, Simplify as Simplification};
+ghost use Rattle.jd_first_steps.specs.declared.rules.FirstRule.TheVariants.{EqRefl as Reflexivity, EmptyCode as Emptiness, Simplify as Simplification};
 
 use crate::focus::{Effect, focused};
-use crate::rules::FirstRule;
 use jd_base::NoMemory;
+use jd_first_steps::FirstRule;
 use jd_term::{Formula, Modality, Term, Update};
 use jd_update::{has_no_binder, simplify};
 use std::alloc::Global;

@@ -2,11 +2,11 @@ ghost use Rattle.std.specs.Prelude.{◌≡◌, ◌<◌, ◌≤◌, ◌++◌, ◌
 ghost use Rattle.jd_term.specs.Formulas.{formula_view};
 ghost use Rattle.jd_model.specs.Sequents.{sequent_view};
 ghost use Rattle.jd_model.specs.Places.{on_side};
-ghost use Rattle.jd_first_rules.specs.Rows.{row_goals, with_instead, goal_premise};
+ghost use Rattle.jd_first_steps.specs.Rows.{row_goals, with_instead, goal_premise};
 ghost use Rattle.jd_first_rules.specs.Goals.{goal_view};
 
-use crate::rules::FirstRule;
 use jd_base::NoMemory;
+use jd_first_steps::FirstRule;
 use jd_model::{Sequent, Side, copy_formulas};
 use jd_term::Formula;
 use std::alloc::Global;

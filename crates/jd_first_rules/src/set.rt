@@ -4,18 +4,23 @@ ghost use Rattle.jd_sequent.specs.Steps.{step_view};
 ghost use Rattle.jd_sequent.specs.Limits.{IsWithinLimits};
 ghost use Rattle.jd_first_rules.specs.Results.{Gives};
 ghost use Rattle.jd_first_rules.specs.Steps.{IsStep};
-ghost use Rattle.jd_first_rules.specs.Instances.{IsInstance};
-ghost use Rattle.jd_first_rules.specs.Laws.{IsNoInstance, takes_all, no_cause, one_way, few};
+ghost use Rattle.jd_first_steps.specs.Instances.{IsInstance};
+ghost use Rattle.jd_update_truth.specs.SortedFormulas.{SortedSequent};
+ghost use Rattle.jd_first_steps.proofs.Sound.{instances_are_sound};
+ghost use Rattle.jd_first_steps.proofs.SortedSteps.{instances_keep_sorted};
+ghost use Rattle.jd_first_rules.specs.Laws.{IsNoInstance, no_cause, one_way, few};
 
 use crate::cause::first_cause;
 use crate::names::named;
-use crate::rules::{FirstRule, Kind};
+use crate::rules::Kind;
 use crate::step::{close, kind, rewrite, row};
+use jd_first_steps::FirstRule;
 use jd_model::Sequent;
 use jd_sequent::{Bad, RuleSet, Step, Task, is_within_limits};
 use std::alloc::Global;
 
-/// The twelve rules as one set. It takes every sequent.
+/// The twelve rules as one set. It takes the sequents whose updates and assignments have right sides
+/// of their variables' sorts: in others `simplify` would not be sound.
 #[derive(Clone, Copy, Debug)]
 pub struct FirstRules;
 
@@ -48,7 +53,7 @@ fn are_within(premises: &[Sequent]) -> bool
 }
 
 impl RuleSet for FirstRules {
-    ghost accepts = { λ r t s. Unit {0} };
+    ghost accepts = { λ r t s. SortedSequent s };
 
     ghost instance = { λ r t s p ps. IsInstance s p ps };
 
@@ -77,7 +82,9 @@ impl RuleSet for FirstRules {
         Ok(premises)
     }
 
-    ghost keeps = { λ r t s p ps a i. takes_all ps };
+    ghost sound = { λ r t s p ps a i. instances_are_sound t s p ps a i };
+
+    ghost keeps = { λ r t s p ps a i. instances_keep_sorted s p ps a i };
 
     ghost has_no_cause = { λ r t s p ps n l c. no_cause s p ps l c };
 

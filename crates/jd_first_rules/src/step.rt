@@ -5,12 +5,13 @@ ghost use Rattle.jd_model.specs.Sequents.{sequent_view, place_view};
 ghost use Rattle.jd_sequent.specs.Steps.{step_view};
 ghost use Rattle.jd_first_rules.specs.Steps.{kind_of, whole_index, assumed_index, close_pair, whole_at, whole_formula, any_at, any_formula, is_nil, same_side};
 ghost use Rattle.jd_first_rules.specs.Results.{Gives};
-ghost use Rattle.jd_first_rules.specs.Instances.{IsClose, IsRow, IsRewrite};
-ghost use Rattle.jd_first_rules.specs.declared.rules.FirstRule.TheVariants.{Close as Closure};
+ghost use Rattle.jd_first_steps.specs.Instances.{IsClose, IsRow, IsRewrite};
+ghost use Rattle.jd_first_steps.specs.declared.rules.FirstRule.TheVariants.{Close as Closure};
 
 use crate::rewrite::rewritten;
 use crate::rows::{goals_of, premises};
-use crate::rules::{FirstRule, Kind};
+use crate::rules::Kind;
+use jd_first_steps::FirstRule;
 use jd_model::{Node, Place, Sequent, Side, at, formula_numbered, formulas_on, put_at_place};
 use jd_sequent::{Bad, Step};
 use jd_term::Formula;

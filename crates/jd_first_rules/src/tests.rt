@@ -1,5 +1,9 @@
+ghost use Rattle.std.specs.Prelude.{IfOk};
+ghost use Rattle.jd_model.specs.Sequents.{sequent_view};
+ghost use Rattle.jd_update_truth.specs.SortedFormulas.{SortedSequent};
+
 use crate::set::FirstRules;
-use jd_base::{ClassId, MethodId, copy_bytes};
+use jd_base::{ClassId, MethodId, NoMemory, copy_bytes};
 use jd_model::{Contracts, Place, Sequent, Side};
 use jd_sequent::{Bad, Obligation, RuleSet, Step, Task};
 use jd_syntax::Sx;
@@ -26,6 +30,16 @@ fn obligation(alloc: Global) -> Obligation {
         diamond: true,
         sequent: empty(alloc),
     }
+}
+
+// `==> false, true`.
+fn false_or_true(alloc: Global) -> Result<Sequent, NoMemory>
+    ensures { IfOk result (λ s. SortedSequent (sequent_view s)) }
+{
+    let mut sequent = empty(alloc);
+    sequent.right.push(Formula::FalseFormula)?;
+    sequent.right.push(Formula::TrueFormula)?;
+    Ok(sequent)
 }
 
 // `closeTrue` at the formula of that number on the right.
@@ -55,9 +69,7 @@ fn a_rule_is_applied(rt: HostRuntime) -> Result<(), Fail> {
     };
     let obligation = obligation(alloc);
     let task = Task::of(&contracts, &obligation);
-    let mut sequent = empty(alloc);
-    sequent.right.push(Formula::FalseFormula)?;
-    sequent.right.push(Formula::TrueFormula)?;
+    let sequent = false_or_true(alloc)?;
     match FirstRules.apply(alloc, &task, &sequent, &close_true(alloc, 2)?) {
         Ok(premises) => assert_eq!(rt; premises.len(), 0),
         Err(_bad) => return Err(Fail::from("refused")),

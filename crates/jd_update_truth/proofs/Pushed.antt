@@ -15,7 +15,7 @@ use Rattle.jd_model.specs.WellFormedHeaps.{in_int}
 use Rattle.jd_model.proofs.Coincidence.{Agree, truth_agree}
 use Rattle.jd_model.proofs.Occurrences.{formula_in}
 use Rattle.jd_model.proofs.Writes.{read_back}
-use Rattle.jd_update_truth.specs.SortedUpdates.{AreSorted, SortedUpdates}
+use Rattle.jd_update_truth.specs.SortedFormulas.{AreSorted, SortedFormula}
 use Rattle.jd_update_truth.proofs.Replacements.{Holds, holds_inner, replace_value, replace_within, joined_holds}
 use Rattle.jd_update_truth.proofs.KeptPairs.{kept_reads, live_agree}
 
@@ -28,7 +28,7 @@ module _ (g : Setting) (d : ℕ) (inv : Heap → Reference → Type 0) (i : Stat
   under_truth [] a s b = refl
   under_truth (p ∷ u) a s b = refl
 
-  pub push_truth : (a : PlainFormula) → SortedUpdates a → (s t : State) (b : List Value) (q : Pairs) → Holds i s t b q → truth g d inv i s b (push q a) ≡ truth g d inv i t b a
+  pub push_truth : (a : PlainFormula) → SortedFormula a → (s t : State) (b : List Value) (q : Pairs) → Holds i s t b q → truth g d inv i s b (push q a) ≡ truth g d inv i t b a
   push_truth TrueFormula o s t b q h = refl
   push_truth FalseFormula o s t b q h = refl
   push_truth (Not a) o s t b q h = λ e. ¬ (push_truth a o s t b q h e)
@@ -53,7 +53,7 @@ module _ (g : Setting) (d : ℕ) (inv : Heap → Reference → Type 0) (i : Stat
   push_truth (IsExactInstance k r) o s t b q h = ap (λ v. is_exactly k (as_ref v) ≡ true) (replace_value i s t r b q h)
 
   -- the update itself
-  pub update_truth : (u : Pairs) → AreSorted u → (a : PlainFormula) → SortedUpdates a → (s : State) (b : List Value) → truth g d inv i s b (push (joined [] u []) a) ≡ truth g d inv i s b (Updated u a)
+  pub update_truth : (u : Pairs) → AreSorted u → (a : PlainFormula) → SortedFormula a → (s : State) (b : List Value) → truth g d inv i s b (push (joined [] u []) a) ≡ truth g d inv i s b (Updated u a)
   update_truth u o a w s b = push_truth a w s (updated i s b u s) b (joined [] u []) (joined_holds i s s b [] (λ x. refl) u o [] s (λ x. refl))
 
   pub live_truth : (u : Pairs) (a : PlainFormula) (s : State) (b : List Value) → truth g d inv i s b (Updated (live a u) a) ≡ truth g d inv i s b (Updated u a)

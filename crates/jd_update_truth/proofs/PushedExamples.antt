@@ -8,5 +8,5 @@ use Rattle.jd_update_truth.proofs.AllLaws.{pushed_update}
 pub pushed_examples : PushedExamples
 pushed_examples = record {
   swapped = λ g d i s b. pushed_update g d i s b swap (refl, (refl, tt)) (Less (ProgramVariable variable_x) (ProgramVariable variable_y)) tt;
-  before_modality = λ g d i s b m. pushed_update g d i s b four_pairs (refl, (refl, (refl, (refl, tt)))) (Modal m copy_y x_below_w) tt;
+  before_modality = λ g d i s b m. pushed_update g d i s b four_pairs (refl, (refl, (refl, (refl, tt)))) (Modal m copy_y x_below_w) ((refl, tt), tt);
 }

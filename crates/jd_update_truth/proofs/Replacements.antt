@@ -19,7 +19,7 @@ use Rattle.jd_model.proofs.States.{read-write}
 use Rattle.jd_model.proofs.Sorts.{value_sort}
 use Rattle.jd_model.proofs.Writes.{at_sort_of}
 use Rattle.jd_model.proofs.Substitution.{ReachesTo, shift_value}
-use Rattle.jd_update_truth.specs.SortedUpdates.{AreSorted}
+use Rattle.jd_update_truth.specs.SortedFormulas.{AreSorted}
 use Rattle.jd_update_truth.specs.UpdateLaws.{replaced}
 
 -- in the state t each variable has the value of what it is replaced by in s

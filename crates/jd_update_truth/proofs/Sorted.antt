@@ -1,4 +1,4 @@
--- Updates whose right sides have the sorts of their variables: what is made of them is such again, and others are not what they replace.
+-- What is made of sorted updates is sorted, and others are not what they replace.
 use Rattle.std.proofs.Common.{◌≡◌, ℕ, Bool, true, false, cond, [], ◌∷◌, filter, Ordering, Less, Equal as EqualOrder, Greater, refl, sym, ap, ◌∙◌, true≢false}
 use Rattle.std.specs.Ordering.{match_ordering}
 use Rattle.jd_base.specs.declared.sort.Sort.TheVariants.{Int as IntSort}
@@ -14,7 +14,7 @@ use Rattle.jd_heap.specs.Values.{Value, IntValue, RefValue}
 use Rattle.jd_update.specs.Replace.{look, inner, replace}
 use Rattle.jd_update.specs.Push.{joined, name_order, insert_pair, in_order, matters, kept, under, push}
 use Rattle.jd_model.proofs.Writes.{read_here}
-use Rattle.jd_update_truth.specs.SortedUpdates.{AreSorted, SortedUpdates}
+use Rattle.jd_update_truth.specs.SortedFormulas.{AreSorted, SortedFormula}
 use Rattle.jd_update_truth.specs.UpdateLaws.{StaySorted, UnsortedUpdatesDiffer}
 
 look_sort : (q : Pairs) → AreSorted q → (x : Name) → sort_of_term (look q x) ≡ x.sort
@@ -94,11 +94,11 @@ filter_sorted m (p ∷ u) o = by (filter_sorted m u o.1) (m p)
     by later true = (o.0, later)
     by later false = later
 
-under_sorted : (u : Pairs) (a : PlainFormula) → AreSorted u → SortedUpdates a → SortedUpdates (under u a)
+under_sorted : (u : Pairs) (a : PlainFormula) → AreSorted u → SortedFormula a → SortedFormula (under u a)
 under_sorted [] a o w = w
 under_sorted (p ∷ u) a o w = (o, w)
 
-push_sorted : (q : Pairs) → AreSorted q → (a : PlainFormula) → SortedUpdates a → SortedUpdates (push q a)
+push_sorted : (q : Pairs) → AreSorted q → (a : PlainFormula) → SortedFormula a → SortedFormula (push q a)
 push_sorted q o (Not a) w = push_sorted q o a w
 push_sorted q o (And a c) w = (push_sorted q o a w.0, push_sorted q o c w.1)
 push_sorted q o (Or a c) w = (push_sorted q o a w.0, push_sorted q o c w.1)
@@ -107,7 +107,7 @@ push_sorted q o (Iff a c) w = (push_sorted q o a w.0, push_sorted q o c w.1)
 push_sorted q o (Forall k a) w = push_sorted (inner q) (inner_sorted q o) a w
 push_sorted q o (Exists k a) w = push_sorted (inner q) (inner_sorted q o) a w
 push_sorted q o (Updated u a) w = push_sorted (joined q u q) (joined_sorted q o u w.0 q o) a w.1
-push_sorted q o (Modal m c a) w = under_sorted (kept q c a) (Modal m c a) (filter_sorted (matters c a) (in_order q []) (in_order_sorted q [] o tt)) tt
+push_sorted q o (Modal m c a) w = under_sorted (kept q c a) (Modal m c a) (filter_sorted (matters c a) (in_order q []) (in_order_sorted q [] o tt)) w
 push_sorted q o a w = tt
 
 pub updates_stay_sorted : StaySorted

@@ -1,3 +1,3 @@
-pub mod SortedUpdates
+pub mod SortedFormulas
 pub mod UpdateLaws
 pub mod PushedExamples

@@ -9,7 +9,7 @@ use Rattle.jd_update.specs.Push.{joined, push, simplified, live}
 use Rattle.jd_model.specs.States.{State, write}
 use Rattle.jd_model.specs.TermValues.{value, within}
 use Rattle.jd_model.specs.Truth.{Setting, Truth}
-use Rattle.jd_update_truth.specs.SortedUpdates.{AreSorted, SortedUpdates}
+use Rattle.jd_update_truth.specs.SortedFormulas.{AreSorted, SortedFormula}
 
 -- the state that a replacement stands for: the right sides in the old state, the first pair of a variable winning
 abbrev pub replaced : State → State → List Value → Pairs → State
@@ -24,21 +24,21 @@ ReplacedLocations = (i s : State) (b : List Value) (q : Pairs) → AreSorted q �
 
 -- the formula under a replacement
 abbrev pub PushedUnder : Type 0
-PushedUnder = (g : Setting) (d : ℕ) (i s : State) (b : List Value) (q : Pairs) → AreSorted q → (a : PlainFormula) → SortedUpdates a → Truth g d i s b (push q a) ↔ Truth g d i (replaced i s b q) b a
+PushedUnder = (g : Setting) (d : ℕ) (i s : State) (b : List Value) (q : Pairs) → AreSorted q → (a : PlainFormula) → SortedFormula a → Truth g d i s b (push q a) ↔ Truth g d i (replaced i s b q) b a
 
 -- the formula under an update, as the update is applied to it
 abbrev pub PushedUpdate : Type 0
-PushedUpdate = (g : Setting) (d : ℕ) (i s : State) (b : List Value) (u : Pairs) → AreSorted u → (a : PlainFormula) → SortedUpdates a → Truth g d i s b (push (joined [] u []) a) ↔ Truth g d i s b (Updated u a)
+PushedUpdate = (g : Setting) (d : ℕ) (i s : State) (b : List Value) (u : Pairs) → AreSorted u → (a : PlainFormula) → SortedFormula a → Truth g d i s b (push (joined [] u []) a) ↔ Truth g d i s b (Updated u a)
 
 abbrev pub SimplifiedFormula : Type 0
-SimplifiedFormula = (g : Setting) (d : ℕ) (i s : State) (b : List Value) (a : PlainFormula) → SortedUpdates a → Truth g d i s b (simplified a) ↔ Truth g d i s b a
+SimplifiedFormula = (g : Setting) (d : ℕ) (i s : State) (b : List Value) (a : PlainFormula) → SortedFormula a → Truth g d i s b (simplified a) ↔ Truth g d i s b a
 
 abbrev pub DeadPairsDropped : Type 0
 DeadPairsDropped = (g : Setting) (d : ℕ) (i s : State) (b : List Value) (u : Pairs) (a : PlainFormula) → Truth g d i s b (Updated (live a u) a) ↔ Truth g d i s b (Updated u a)
 
 -- what is made of sorted updates is sorted
 pub record StaySorted : Type 0 where
-  pub of_formulas : (q : Pairs) → AreSorted q → (a : PlainFormula) → SortedUpdates a → SortedUpdates (push q a)
+  pub of_formulas : (q : Pairs) → AreSorted q → (a : PlainFormula) → SortedFormula a → SortedFormula (push q a)
   pub of_updates : (u : Pairs) → AreSorted u → AreSorted (joined [] u [])
   pub of_live_pairs : (u : Pairs) (a : PlainFormula) → AreSorted u → AreSorted (live a u)
 

@@ -34,7 +34,7 @@ pub fn dead_pairs_dropped()
     ensures { DeadPairsDropped }
 {}
 
-/// What is made of updates whose right sides have the sorts of their variables is such again.
+/// What is made of sorted updates, and a sorted formula into which they are pushed, is sorted.
 pub fn updates_stay_sorted()
     ensures { StaySorted }
 {}

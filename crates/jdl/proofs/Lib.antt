@@ -7,3 +7,4 @@ pub mod Replays
 pub mod Texts
 pub mod Unique
 pub mod Verdicts
+pub mod KeptPrograms

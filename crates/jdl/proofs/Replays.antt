@@ -9,7 +9,8 @@ use Rattle.jd_replay.specs.Verdicts.{IsVerdict}
 use Rattle.jd_replay.specs.declared.verdict.Verdict.{Verdict}
 use Rattle.jd_first_java.specs.Programs.{Program, IsValue, Operand, Parameter, Literal, Result}
 use Rattle.jd_first_oblig.specs.Obligations.{obligation_sequent, obligation_of, contracts_of, IsLiteralInRange}
-use Rattle.jdl.specs.Answers.{AcceptsObligations, task_of, leads_of}
+use Rattle.jd_first_meaning.specs.ClosedPrograms.{task_of}
+use Rattle.jdl.specs.Answers.{AcceptsObligations, leads_of}
 
 -- a value of a program is a literal in range, if it is a literal
 pub literal_in_range : (ps : List (List ℕ)) (o : Operand) → IsValue ps o → IsLiteralInRange o

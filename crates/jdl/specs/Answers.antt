@@ -4,12 +4,13 @@ use Rattle.jd_model.specs.Sequents.{PlainSequent}
 use Rattle.jd_sequent.specs.Trees.{PlainStep}
 use Rattle.jd_sequent.specs.Obligations.{PlainTask}
 use Rattle.jd_sequent.specs.Rules.{LeadsWithinLimits}
-use Rattle.jd_first_rules.specs.Instances.{IsInstance}
+use Rattle.jd_first_steps.specs.Instances.{IsInstance}
 use Rattle.jd_first_java.specs.Programs.{Program}
 use Rattle.jd_first_java.specs.Reads as java
 use Rattle.jd_first_script.specs.Scripts as script
 use Rattle.jd_first_script.specs.Scripts.{PlainScript}
-use Rattle.jd_first_oblig.specs.Obligations.{obligation_name, obligation_sequent, obligation_of, contracts_of}
+use Rattle.jd_first_oblig.specs.Obligations.{obligation_name, obligation_sequent}
+use Rattle.jd_first_meaning.specs.ClosedPrograms.{task_of}
 use Rattle.jdl.specs.Words.{replay_words}
 use Rattle.jdl.specs.Reports.{usage_text, refused_text, proof_limit_text, file_limit_text, report_limit_text, IsReport}
 use Rattle.jdl.specs.declared.status.Status.{Status}
@@ -24,10 +25,6 @@ file_limit = 1048576
 
 abbrev pub report_limit : ℕ
 report_limit = 67108864
-
--- what the rules may look up for a program
-abbrev pub task_of : Program → PlainTask
-task_of q = record { contracts = contracts_of q; obligation = obligation_of q }
 
 -- the rules take the sequent of each program's obligation
 abbrev pub AcceptsObligations : (PlainTask → PlainSequent → Type 0) → Type 0

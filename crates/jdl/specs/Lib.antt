@@ -1,4 +1,5 @@
 pub mod Answers
+pub mod KeptPrograms
 pub mod Outcomes
 pub mod Reports
 pub mod Statuses

@@ -4,6 +4,7 @@ ghost use Rattle.jd_base.specs.Faults.{Rose};
 ghost use Rattle.jdl.specs.Words.{word_texts, replay_words};
 ghost use Rattle.jdl.specs.Answers.{AcceptsObligations, leads_of, first_leads, IsTold};
 ghost use Rattle.jdl.specs.Statuses.{IsWritten, MayEndUsage};
+ghost use Rattle.jdl.specs.KeptPrograms.{EachCaseIsKept};
 ghost use Rattle.jdl.specs.Outcomes.{IsAnswered, IsCutShort, IsReadFault, HasMoreFaults, IsAccepted, IsNotAccepted, IsSourceRefused, IsScriptRefused, IsPastLimit};
 
 use crate::answer::{Answer, Stop, answer_to};
@@ -39,6 +40,10 @@ fn run_with<R: RuleSet, L: Library, S: Sink>(
     sink: &mut S,
 ) -> Status
     requires accepts { AcceptsObligations (R.accepts rules.now) }
+
+    // Status 0 of `replay` means that each case of the program in the Java file is kept.
+    ensures kept { result ≡ Status.Done → IsTold (word_texts words.now) (L.contents library.old)
+        → EachCaseIsKept (word_texts words.now) (L.contents library.old) }
 
     // What is written: the whole answer, a first part of it, or nothing.
     ensures answer { IsWritten result → IsTold (word_texts words.now) (L.contents library.old)
@@ -81,13 +86,18 @@ fn run_with<R: RuleSet, L: Library, S: Sink>(
 
 /// Does what the words say with the files of a library, and writes the report to a sink: `replay
 /// PROOF FILE` replays a proof script for the method of a Java file. Status 0 exactly where the
-/// script derives the method's obligation with no goal left.
+/// script derives the method's obligation with no goal left, and then the method keeps its contract.
 pub fn run<L: Library, S: Sink>(
     alloc: Global,
     words: &[String],
     library: &mut L,
     sink: &mut S,
 ) -> Status
+    // Status 0 of `replay` means that each case of the program in the Java file is kept: from each state that
+    // meets the case's entry, each run that ends meets its exit, and where the contract asks for it the run ends.
+    ensures kept { result ≡ Status.Done → IsTold (word_texts words.now) (L.contents library.old)
+        → EachCaseIsKept (word_texts words.now) (L.contents library.old) }
+
     // What is written: the whole answer, a first part of it, or nothing.
     ensures answer { IsWritten result → IsTold (word_texts words.now) (L.contents library.old)
         → IsAnswered first_leads (word_texts words.now) (L.contents library.old) (S.bytes sink.old) (S.bytes sink.new) result }

@@ -1,6 +1,6 @@
 use Rattle.std.proofs.Common.{◌≡◌, map, take}
 use Rattle.jd_model.specs.Sequents.{sequent_view}
-use Rattle.jd_first_rules.specs.Rows.{goal_premise}
+use Rattle.jd_first_steps.specs.Rows.{goal_premise}
 use Rattle.jd_first_rules.specs.Goals.{goal_view}
 use Rattle.jd_first_rules.proofs.rows.premises.Given as goal
 

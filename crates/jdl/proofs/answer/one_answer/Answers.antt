@@ -1,4 +1,5 @@
-use Rattle.jdl.specs.Answers.{task_of, leads_of}
+use Rattle.jd_first_meaning.specs.ClosedPrograms.{task_of}
+use Rattle.jdl.specs.Answers.{leads_of}
 use Rattle.jdl.proofs.Unique.{answer_unique}
 use Rattle.jdl.proofs.answer.one_answer.Goals as goal
 

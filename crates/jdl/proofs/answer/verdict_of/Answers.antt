@@ -10,4 +10,4 @@ replay-requires g c =
 
 pub returns : goal.returns
 returns g c =
-    IfOk-weaker _ _ _ (λ verdict. verdict_of_program (g.R.RuleSet.instance c.args.rules.now) (program_view c.args.program.now) _ _ _ verdict (task_of_program _ _ _ _ c.of-task.ensures c.in_ok-contracts.ensures c.in_ok-obligation.ensures) (ap (λ o. o.sequent) c.in_ok-obligation.ensures)) c.replay.ensures
+    IfOk-weaker _ _ _ (λ verdict. verdict_of_program (g.R.RuleSet.instance c.args.rules.now) (program_view c.args.program.now) _ _ _ verdict (task_of_program _ _ _ _ c.of-task.ensures c.in_ok-contracts.ensures c.in_ok-obligation.ensures) (ap (λ o. o.sequent) c.in_ok-obligation.ensures)) c.replay.ensures.verdict

@@ -3,7 +3,7 @@ use Rattle.std.proofs.lemmas.Bool.Decides.{nat_tests}
 use Rattle.jd_model.specs.Sequents.{sequent_view}
 use Rattle.jd_sequent.specs.Steps.{step_view}
 use Rattle.jd_sequent.specs.Limits.{IsWithinLimits}
-use Rattle.jd_first_rules.specs.Names.{rule_named}
+use Rattle.jd_first_steps.specs.Names.{rule_named}
 use Rattle.jd_first_rules.specs.Laws.{IsNoInstance}
 use Rattle.jd_first_rules.proofs.Applying.{caused, no_step, instance_is, not_within, empty_map}
 use Rattle.jd_first_rules.proofs.set.FirstRulesRuleSet.apply.Goals as goal

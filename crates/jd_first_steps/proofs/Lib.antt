@@ -1,0 +1,9 @@
+pub mod Options
+pub mod FormulaLists
+pub mod WholeFormulas
+pub mod Paths
+pub mod Places
+pub mod Replacements
+pub mod SortedSteps
+pub mod Sound
+pub mod UnsortedSimplify
