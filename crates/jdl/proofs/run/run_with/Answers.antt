@@ -16,8 +16,8 @@ pub returns-in-Ok-clause-kept : goal.returns-in-Ok-clause-kept
 returns-in-Ok-clause-kept g c = λ is told.
     accepted_is_kept (leads_of (g.R.RuleSet.instance c.args.rules.now)) (λ q. g.R.RuleSet.accepts c.args.rules.now (task_of q)) (word_texts c.args.words.now) (g.L.Library.contents c.args.library.now) c.requires.accepts
     (λ q. derivations_are_sound (task_of q) (g.R.RuleSet.accepts c.args.rules.now (task_of q)) (LeadsWithinLimits (g.R.RuleSet.instance c.args.rules.now (task_of q)))
-      (λ s p ps ok l. g.met.R.RuleSet.keeps c.args.rules.now (task_of q) s p ps ok l.0)
-      (λ s p ps ok l. g.met.R.RuleSet.sound c.args.rules.now (task_of q) s p ps ok l.0))
+    (λ s p ps ok l. g.met.R.RuleSet.keeps c.args.rules.now (task_of q) s p ps ok l.0)
+    (λ s p ps ok l. g.met.R.RuleSet.sound c.args.rules.now (task_of q) s p ps ok l.0))
     (answer_done (leads_of (g.R.RuleSet.instance c.args.rules.now)) (word_texts c.args.words.now) (g.L.Library.contents c.args.library.now) _ _ (c.in-Ok.ensures.answer told) (answered_so _ _ Done c.write_answer.ensures.either (λ e. cc) is))
 
 pub returns-in-Ok-clause-not_accepted : goal.returns-in-Ok-clause-not_accepted
