@@ -1,3 +1,4 @@
+pub mod Causes
 pub mod Preorder
 pub mod Scripts
 pub mod Freshness

@@ -24,7 +24,7 @@ pub trait RuleSet {
     ghost cause: { Self → PlainTask → PlainSequent → PlainStep → ℕ → Type 0 };
 
     /// The premises of a step. `Ok` exactly where it is an instance whose premises are within the
-    /// limits; a refusal names a cause that holds.
+    /// limits; a refusal names the least cause that holds.
     fn apply(
         &self,
         alloc: Global,
