@@ -36,10 +36,11 @@ fn obligation(alloc: Global) -> Obligation {
 fn false_or_true(alloc: Global) -> Result<Sequent, NoMemory>
     ensures { IfOk result (λ s. SortedSequent (sequent_view s)) }
 {
-    let mut sequent = empty(alloc);
-    sequent.right.push(Formula::FalseFormula)?;
-    sequent.right.push(Formula::TrueFormula)?;
-    Ok(sequent)
+    let left = Vec::new(alloc);
+    let mut right = Vec::new(alloc);
+    right.push(Formula::FalseFormula)?;
+    right.push(Formula::TrueFormula)?;
+    Ok(Sequent { left, right })
 }
 
 // `closeTrue` at the formula of that number on the right.

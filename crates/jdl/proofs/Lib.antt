@@ -4,6 +4,7 @@ pub mod Lengths
 pub mod Outcomes
 pub mod Reading
 pub mod Replays
+pub mod SortedObligations
 pub mod Texts
 pub mod Unique
 pub mod Verdicts
