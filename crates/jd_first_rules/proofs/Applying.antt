@@ -1,47 +1,122 @@
--- From a rule's steps to the set's instances.
-use Rattle.std.proofs.Common.{◌≡◌, ℕ, List, [], ◌∷◌, length, map, Option, Some, All, refl, sym, ap, ◌∙◌, subst, arith}
-use Rattle.jd_model.specs.Sequents.{PlainSequent}
+-- From what a step's stages find to the set's instances.
+use Rattle.std.proofs.Common.{◌≡◌, ℕ, List, [], ◌∷◌, length, map, Option, Some, None, refl, sym, ap, ◌∙◌, subst, arith}
+use Rattle.std.specs.Prelude.{option_and_then}
+use Rattle.jd_term.specs.Formulas.{PlainFormula, formula_view}
+use Rattle.jd_model.specs.declared.sequent.Side.{Side}
+use Rattle.jd_model.specs.declared.sequent.Side.TheVariants.{Right}
+use Rattle.jd_model.specs.Sequents.{PlainSequent, PlainPlace}
+use Rattle.jd_model.specs.Places.{Part, FormulaPart, on_side, numbered, part_at, at_place, IsFormulaPlace}
 use Rattle.jd_sequent.specs.Trees.{PlainStep}
-use Rattle.jd_sequent.specs.Limits.{IsWithinLimits}
-use Rattle.jd_sequent.specs.Rules.{IsCaused}
-use Rattle.jd_sequent.specs.declared.bad.Bad.{Bad}
-use Rattle.jd_sequent.specs.declared.bad.Bad.TheVariants.{UnknownRule, NoFormula, NoPlace, WrongPlaceKind, NoMatch, MissingInst, BadInst, NoAssume, NotFresh, SideCondition, NoContract, NoDecreases, TooLarge, NoMemory}
 use Rattle.jd_first_steps.specs.declared.rules.FirstRule.{FirstRule}
-use Rattle.jd_first_steps.specs.Names.{rule_name, rule_named}
+use Rattle.jd_first_steps.specs.declared.rules.FirstRule.TheVariants.{Close, CloseTrue, NotLeft, AndLeft, AndRight, ImpRight, EqRefl, SetSimple, FrameReturn, CatchEmpty, EmptyCode, Simplify}
+use Rattle.jd_first_steps.specs.Names.{rule_name}
+use Rattle.jd_first_steps.specs.Rows.{row_goals, goal_premise}
+use Rattle.jd_first_steps.specs.Rewrites.{Rewrites}
 use Rattle.jd_first_steps.specs.Instances.{IsInstance}
-use Rattle.jd_first_rules.specs.Steps.{IsStep}
-use Rattle.jd_first_rules.specs.Laws.{IsNoInstance, named_back, one_way}
+use Rattle.jd_first_rules.specs.declared.rules.Kind.{Kind}
+use Rattle.jd_first_rules.specs.declared.rules.Kind.TheVariants.{Closing, Whole, Anywhere}
+use Rattle.jd_first_rules.specs.declared.made.Made.{Made}
+use Rattle.jd_first_rules.specs.declared.made.Made.TheVariants.{Goals, Instead}
+use Rattle.jd_first_rules.specs.Goals.{goal_view}
+use Rattle.jd_first_rules.specs.Steps.{kind_of}
+use Rattle.jd_first_rules.specs.StepKinds.{IsOfKind, to_step}
+use Rattle.jd_first_rules.specs.Causes.{whole_side, IsOn, IsNotTaken}
+use Rattle.jd_first_rules.specs.Results.{IsAt, IsMade, made_premises, AssumesRightly}
+use Rattle.jd_first_rules.specs.Places.{no_some, formula_same, some_same}
+use Rattle.jd_first_rules.specs.NoCause.{row_side, row_not_close, rewrite_not_close}
 
-some_same : {A : Type 0} {x y : A} → Some x ≡ Some y → x ≡ y
-some_same h = cc
+closing_is : (rule : FirstRule) → kind_of rule ≡ Closing → rule ≡ Close
+closing_is Close e = refl
+closing_is CloseTrue e = cc
+closing_is NotLeft e = cc
+closing_is AndLeft e = cc
+closing_is AndRight e = cc
+closing_is ImpRight e = cc
+closing_is EqRefl e = cc
+closing_is SetSimple e = cc
+closing_is FrameReturn e = cc
+closing_is CatchEmpty e = cc
+closing_is EmptyCode e = cc
+closing_is Simplify e = cc
 
-pub caused : (bad : Bad) (N : Type 0) → ((bad ≡ NoMemory → ⊥) → N) → IsCaused (λ n. N) bad
-caused UnknownRule N h = h (λ e. (cc))
-caused NoFormula N h = h (λ e. (cc))
-caused NoPlace N h = h (λ e. (cc))
-caused WrongPlaceKind N h = h (λ e. (cc))
-caused NoMatch N h = h (λ e. (cc))
-caused MissingInst N h = h (λ e. (cc))
-caused BadInst N h = h (λ e. (cc))
-caused NoAssume N h = h (λ e. (cc))
-caused NotFresh N h = h (λ e. (cc))
-caused SideCondition N h = h (λ e. (cc))
-caused NoContract N h = h (λ e. (cc))
-caused NoDecreases N h = h (λ e. (cc))
-caused TooLarge N h = h (λ e. (cc))
-caused NoMemory N h = tt
+rightly_nothing : (rule : FirstRule) (s : PlainSequent) (l : List (Option PlainPlace)) (a : PlainFormula) → (rule ≡ Close → ⊥) → AssumesRightly rule s l a → l ≡ []
+rightly_nothing Close s l a other e = absurd (other refl)
+rightly_nothing rule s l a other e = e
 
-pub no_step : (rule : FirstRule) (s : PlainSequent) (p : PlainStep) → rule_named p.rule ≡ Some rule → ((ps : List PlainSequent) → IsStep rule s p ps → ⊥) → IsNoInstance s p
-no_step rule s p named none ps l =
-    let same = some_same (sym (named_back l.0.rule) ∙ sym (ap rule_named l.0.named) ∙ named) in
-    none ps (subst (λ r. IsStep r s p ps) same l.0.step)
+-- at a path of no numbers the whole formula stands
+whole_found : (s : PlainSequent) (place : PlainPlace) (a : PlainFormula) → place.path ≡ [] → at_place s place ≡ Some (FormulaPart a) → numbered (on_side s place.side) place.index ≡ Some a
+whole_found s place a whole e = by (numbered (on_side s place.side) place.index) (ap (λ path. option_and_then (λ b. part_at path (FormulaPart b)) (numbered (on_side s place.side) place.index)) (sym whole) ∙ e)
+  where
+    by : (o : Option PlainFormula) → option_and_then (λ b. part_at [] (FormulaPart b)) o ≡ Some (FormulaPart a) → o ≡ Some a
+    by None h = absurd (no_some h)
+    by (Some b) h = ap Some (formula_same (some_same h))
 
-pub instance_is : (rule : FirstRule) (s : PlainSequent) (p : PlainStep) (ps : List PlainSequent) → p.rule ≡ rule_name rule → p.insts ≡ [] → IsStep rule s p ps → IsInstance s p ps
-instance_is rule s p ps named insts step = record { rule = rule; named = named; insts = insts; step = step }
+close_place : (place : PlainPlace) (side : Side) → (place.side ≡ side) × (place.path ≡ []) → place ≡ record { side = side; index = place.index; path = [] }
+close_place place side on = λ i. record { side = on.0 i; index = place.index; path = on.1 i }
 
-pub not_within : (s : PlainSequent) (p : PlainStep) (qs : List PlainSequent) → IsInstance s p qs → (All IsWithinLimits qs → ⊥) → IsNoInstance s p
-not_within s p qs is large ps l = large (subst (All IsWithinLimits) (one_way s p ps qs l.0 is) l.1)
+-- what a rule made of the formula is a step of it
+step_of : (k : Kind) (m : Made) (rule : FirstRule) (s : PlainSequent) (p : PlainStep) (place : PlainPlace) (a : PlainFormula) → kind_of rule ≡ k → IsAt rule s p place a → IsMade k rule place.side a m → AssumesRightly rule s p.assumes a → IsOfKind k rule s p (made_premises s place m)
+step_of Closing (Goals goals) rule s p place a kind at made right = by (closing_is rule kind)
+  where
+    by : rule ≡ Close → IsOfKind Closing rule s p (made_premises s place (Goals goals))
+    by is =
+        let on : IsOn (Some Right) place = subst (λ r. IsOn (whole_side r) place) is at.on in
+        let assumed = subst (λ r. AssumesRightly r s p.assumes a) is right in
+        record {
+          is = is;
+          index = place.index;
+          assumed = assumed.index;
+          formula = a;
+          place = at.placed ∙ ap Some (close_place place Right on);
+          assumes = assumed.only;
+          on_right = ap (λ side. numbered (on_side s side) place.index) (sym on.0) ∙ whole_found s place a on.1 at.found;
+          on_left = assumed.found;
+          premises = ap (map (goal_premise s place.side place.index)) made;
+        }
+step_of Whole (Goals goals) rule s p place a kind at made right =
+    let whole = (subst (λ w. IsOn w place) (row_side rule place.side a (map goal_view goals.items) made) at.on).1 in
+    record {
+      place = place;
+      formula = a;
+      goals = map goal_view goals.items;
+      placed = at.placed;
+      whole = whole;
+      assumes = rightly_nothing rule s p.assumes a (row_not_close rule place.side a (map goal_view goals.items) made) right;
+      found = whole_found s place a whole at.found;
+      row = made;
+      premises = refl;
+    }
+step_of Anywhere (Instead after) rule s p place a kind at made right =
+    record {
+      place = place;
+      before = a;
+      after = formula_view after;
+      placed = at.placed;
+      assumes = rightly_nothing rule s p.assumes a (rewrite_not_close rule a (formula_view after) made) right;
+      found = at.found;
+      rewrites = made;
+      premises = refl;
+    }
+step_of k m rule s p place a kind at made right = absurd made
+
+pub instance_is : (rule : FirstRule) (s : PlainSequent) (p : PlainStep) (place : PlainPlace) (a : PlainFormula) (m : Made) (ps : List PlainSequent) → p.rule ≡ rule_name rule → IsAt rule s p place a → IsMade (kind_of rule) rule place.side a m → p.insts ≡ [] → AssumesRightly rule s p.assumes a → ps ≡ made_premises s place m → IsInstance s p ps
+instance_is rule s p place a m ps named at made insts right e =
+    subst (IsInstance s p) (sym e) (record { rule = rule; named = named; insts = insts; step = to_step (kind_of rule) rule s p (made_premises s place m) (step_of (kind_of rule) m rule s p place a refl at made right) })
+
+-- what is made is taken
+pub made_taken : (k : Kind) (m : Made) (rule : FirstRule) (side : Side) (a : PlainFormula) → IsMade k rule side a m → IsNotTaken k rule side a → ⊥
+made_taken Closing m rule side a made none = none
+made_taken Whole (Goals goals) rule side a made none = no_some (sym none ∙ made)
+made_taken Anywhere (Instead after) rule side a made none = none (formula_view after) made
+made_taken k m rule side a made none = made
 
 pub empty_map : {A B : Type 0} (f : A → B) (xs : List A) → length xs ≡ 0 → map f xs ≡ []
 empty_map f [] e = refl
 empty_map f (x ∷ xs) e = absurd (omega arith)
+
+nil_cons : {A : Type 0} {x : A} {xs : List A} → x ∷ xs ≡ [] → ⊥
+nil_cons h = cc
+
+pub no_map : {A B : Type 0} (f : A → B) (xs : List A) → (length xs ≡ 0 → ⊥) → map f xs ≡ [] → ⊥
+no_map f [] some e = some refl
+no_map f (x ∷ xs) some e = nil_cons e

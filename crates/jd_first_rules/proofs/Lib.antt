@@ -1,6 +1,6 @@
 pub mod Applying
 pub mod Chains
-pub mod Gives
 pub mod Instead
+pub mod Refusals
 pub mod Rewritings
 pub mod Within

@@ -5,9 +5,8 @@ use Rattle.jd_term.specs.Formulas.{PlainFormula, TrueFormula, Not, And, Implies}
 use Rattle.jd_model.specs.declared.sequent.Side.{Side}
 use Rattle.jd_model.specs.declared.sequent.Side.TheVariants.{Left, Right}
 use Rattle.jd_model.specs.Sequents.{PlainSequent}
-use Rattle.jd_model.specs.Places.{put_at}
+use Rattle.jd_model.specs.Places.{on_side, numbered, put_at}
 use Rattle.jd_sequent.specs.Trees.{PlainStep}
-use Rattle.jd_sequent.specs.Rules.{LeadsWithinLimits}
 use Rattle.jd_update.specs.Push.{simplified}
 use Rattle.jd_first_steps.specs.declared.rules.FirstRule.{FirstRule}
 use Rattle.jd_first_steps.specs.declared.rules.FirstRule.TheVariants.{Close, CloseTrue, NotLeft, AndLeft, AndRight, ImpRight, EqRefl, SetSimple, FrameReturn, CatchEmpty, EmptyCode, Simplify}
@@ -21,17 +20,7 @@ use Rattle.jd_first_rules.specs.Executions.{set_executed, return_executed, catch
 use Rattle.jd_first_steps.specs.Instances.{IsClose, IsRow, IsRewrite, IsInstance}
 use Rattle.jd_first_rules.specs.Steps.{kind_of, IsStep}
 use Rattle.jd_first_rules.specs.StepKinds.{IsOfKind, of_kind}
-use Rattle.jd_first_rules.specs.StepLemmas.{row_found, rewrite_found}
-
--- no premises within the limits are led to
-abbrev pub IsNoInstance : PlainSequent → PlainStep → Type 0
-IsNoInstance s p = (ps : List PlainSequent) → LeadsWithinLimits IsInstance s p ps → ⊥
-
-pub no_cause : (s : PlainSequent) (p : PlainStep) (ps : List PlainSequent) → LeadsWithinLimits IsInstance s p ps → IsNoInstance s p → ⊥
-no_cause s p ps l c = c ps l
-
-some_same : {A : Type 0} {x y : A} → Some x ≡ Some y → x ≡ y
-some_same h = cc
+use Rattle.jd_first_rules.specs.Places.{some_same, one_formula}
 
 pub named_back : (r : FirstRule) → rule_named (rule_name r) ≡ Some r
 named_back Close = refl
@@ -47,7 +36,7 @@ named_back CatchEmpty = refl
 named_back EmptyCode = refl
 named_back Simplify = refl
 
-same_rule : (p : PlainStep) (q r : FirstRule) → p.rule ≡ rule_name q → p.rule ≡ rule_name r → q ≡ r
+pub same_rule : (p : PlainStep) (q r : FirstRule) → p.rule ≡ rule_name q → p.rule ≡ rule_name r → q ≡ r
 same_rule p q r a b = some_same (sym (named_back q) ∙ ap rule_named (sym a ∙ b) ∙ named_back r)
 
 rewrites_one_way : (rule : FirstRule) (a x y : PlainFormula) → Rewrites rule a x → Rewrites rule a y → x ≡ y
@@ -62,17 +51,19 @@ rewrites_one_way rule a x y r q = absurd r
 kind_one_way : (k : Kind) (rule : FirstRule) (s : PlainSequent) (p : PlainStep) (ps qs : List PlainSequent) → IsOfKind k rule s p ps → IsOfKind k rule s p qs → ps ≡ qs
 kind_one_way Closing rule s p ps qs a b = a.premises ∙ sym b.premises
 kind_one_way Whole rule s p ps qs a b =
-    let same : (a.place, a.formula) ≡ (b.place, b.formula) = some_same (sym (row_found rule s p ps a) ∙ row_found rule s p qs b) in
-    let goals : a.goals ≡ b.goals = some_same (sym a.row ∙ ap (λ w. row_goals rule w.0.side w.1) same ∙ b.row) in
+    let place : a.place ≡ b.place = some_same (sym a.placed ∙ b.placed) in
+    let formula : a.formula ≡ b.formula = some_same (sym a.found ∙ ap (λ q. numbered (on_side s q.side) q.index) place ∙ b.found) in
+    let goals : a.goals ≡ b.goals = some_same (sym a.row ∙ ap (λ q. row_goals rule q.side a.formula) place ∙ ap (row_goals rule b.place.side) formula ∙ b.row) in
     a.premises
-    ∙ ap (λ w. map (goal_premise s w.0.side w.0.index) a.goals) same
+    ∙ ap (λ q. map (goal_premise s q.side q.index) a.goals) place
     ∙ ap (map (goal_premise s b.place.side b.place.index)) goals
     ∙ sym b.premises
 kind_one_way Anywhere rule s p ps qs a b =
-    let same : (a.place, a.before) ≡ (b.place, b.before) = some_same (sym (rewrite_found rule s p ps a) ∙ rewrite_found rule s p qs b) in
-    let after : a.after ≡ b.after = rewrites_one_way rule b.before a.after b.after (subst (λ w. Rewrites rule w a.after) (ap (λ w. w.1) same) a.rewrites) b.rewrites in
+    let place : a.place ≡ b.place = some_same (sym a.placed ∙ b.placed) in
+    let before : a.before ≡ b.before = one_formula s a.place b.place a.before b.before place a.found b.found in
+    let after : a.after ≡ b.after = rewrites_one_way rule b.before a.after b.after (subst (λ f. Rewrites rule f a.after) before a.rewrites) b.rewrites in
     a.premises
-    ∙ ap (λ w. put_at s w.0 a.after ∷ []) same
+    ∙ ap (λ q. put_at s q a.after ∷ []) place
     ∙ ap (λ f. put_at s b.place f ∷ []) after
     ∙ sym b.premises
 

@@ -1,9 +1,11 @@
+pub mod Causes
 pub mod Effects
 pub mod Executions
 pub mod Focus
 pub mod Goals
 pub mod Laws
+pub mod NoCause
+pub mod Places
 pub mod Results
 pub mod StepKinds
-pub mod StepLemmas
 pub mod Steps

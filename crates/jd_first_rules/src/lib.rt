@@ -1,8 +1,8 @@
 //! The twelve rules of the first replay.
 #![tactic(auto)]
 
-mod cause;
 mod focus;
+mod made;
 mod names;
 mod parts;
 mod rewrite;

@@ -1,19 +1,20 @@
-ghost use Rattle.std.specs.Prelude.{◌≡◌, ◌↔◌, IsTrue, All, map};
+ghost use Rattle.std.specs.Prelude.{◌≡◌, ◌↔◌, IsTrue, All, MatchResult, map};
 ghost use Rattle.jd_model.specs.Sequents.{sequent_view};
 ghost use Rattle.jd_sequent.specs.Steps.{step_view};
+ghost use Rattle.jd_sequent.specs.Rules.{IsCaused};
 ghost use Rattle.jd_sequent.specs.Limits.{IsWithinLimits};
-ghost use Rattle.jd_first_rules.specs.Results.{Gives};
-ghost use Rattle.jd_first_rules.specs.Steps.{IsStep};
+ghost use Rattle.jd_first_steps.specs.Names.{rule_name};
 ghost use Rattle.jd_first_steps.specs.Instances.{IsInstance};
 ghost use Rattle.jd_update_truth.specs.SortedFormulas.{SortedSequent};
 ghost use Rattle.jd_first_steps.proofs.Sound.{instances_are_sound};
 ghost use Rattle.jd_first_steps.proofs.SortedSteps.{instances_keep_sorted};
-ghost use Rattle.jd_first_rules.specs.Laws.{IsNoInstance, no_cause, one_way, few};
+ghost use Rattle.jd_first_rules.specs.Causes.{Cause};
+ghost use Rattle.jd_first_rules.specs.NoCause.{no_cause};
+ghost use Rattle.jd_first_rules.specs.Laws.{one_way, few};
 
-use crate::cause::first_cause;
+use crate::made::{made_of, premises_of};
 use crate::names::named;
-use crate::rules::Kind;
-use crate::step::{close, kind, rewrite, row};
+use crate::step::{assumes_rightly, formula_at};
 use jd_first_steps::FirstRule;
 use jd_model::Sequent;
 use jd_sequent::{Bad, RuleSet, Step, Task, is_within_limits};
@@ -24,20 +25,33 @@ use std::alloc::Global;
 #[derive(Clone, Copy, Debug)]
 pub struct FirstRules;
 
-// A step of a rule. Which cause a refusal has, `first_cause` says.
+// The premises of a step of the rule, also where one of them passes a limit.
 fn applied(
     alloc: Global,
     rule: FirstRule,
     sequent: &Sequent,
     step: &Step,
 ) -> Result<Vec<Sequent>, Bad>
-    ensures { Gives (IsStep rule (sequent_view sequent.now) (step_view step.now)) result }
+    requires { (step_view step.now).rule ≡ rule_name rule }
+    ensures { MatchResult result
+        (λ premises. IsInstance (sequent_view sequent.now) (step_view step.now) (map sequent_view premises.items))
+        (λ bad. IsCaused (Cause (sequent_view sequent.now) (step_view step.now)) bad) }
 {
-    match kind(rule) {
-        Kind::Closing => close(alloc, sequent, step),
-        Kind::Whole => row(alloc, rule, sequent, step),
-        Kind::Anywhere => rewrite(alloc, rule, sequent, step),
+    let (place, formula) = match formula_at(rule, sequent, step) {
+        Err(bad) => return Err(bad),
+        Ok(found) => found,
+    };
+    let Some(made) = made_of(alloc, rule, place.side, formula)? else {
+        return Err(Bad::NoMatch)
+    };
+    if !step.insts.is_empty() {
+        return Err(Bad::BadInst);
     }
+    if !assumes_rightly(rule, sequent, &step.assumes, formula) {
+        return Err(Bad::NoAssume);
+    }
+    let premises = premises_of(alloc, sequent, place, made)?;
+    Ok(premises)
 }
 
 // Whether all premises are within the limits.
@@ -57,7 +71,7 @@ impl RuleSet for FirstRules {
 
     ghost instance = { λ r t s p ps. IsInstance s p ps };
 
-    ghost cause = { λ r t s p n. IsNoInstance s p };
+    ghost cause = { λ r t s p n. Cause s p n };
 
     fn apply(
         &self,
@@ -70,12 +84,9 @@ impl RuleSet for FirstRules {
             return Err(Bad::UnknownRule)
         };
         let premises = match applied(alloc, rule, sequent, step) {
-            Err(bad) => return Err(first_cause(alloc, rule, sequent, step, bad)),
+            Err(bad) => return Err(bad),
             Ok(premises) => premises,
         };
-        if !step.insts.is_empty() {
-            return Err(Bad::BadInst);
-        }
         if !are_within(&premises) {
             return Err(Bad::TooLarge);
         }
@@ -86,7 +97,7 @@ impl RuleSet for FirstRules {
 
     ghost keeps = { λ r t s p ps a i. instances_keep_sorted s p ps a i };
 
-    ghost has_no_cause = { λ r t s p ps n l c. no_cause s p ps l c };
+    ghost has_no_cause = { λ r t s p ps n l c. no_cause s p ps n l c };
 
     ghost one_way = { λ r t s p ps qs a b. one_way s p ps qs a b };
 

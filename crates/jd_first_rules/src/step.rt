@@ -1,21 +1,18 @@
-ghost use Rattle.std.specs.Prelude.{◌≡◌, ◌∷◌, [], None, Some, Err, OnErr, MatchResult, map, option_map, IfOk};
-ghost use Rattle.jd_sequent.specs.declared.bad.Bad.TheVariants.{NoMemory as OutOfMemory};
+ghost use Rattle.std.specs.Prelude.{◌≡◌, ◌↔◌, IsTrue, MatchResult, map, option_map};
 ghost use Rattle.jd_term.specs.Formulas.{formula_view};
 ghost use Rattle.jd_model.specs.Sequents.{sequent_view, place_view};
 ghost use Rattle.jd_sequent.specs.Steps.{step_view};
-ghost use Rattle.jd_first_rules.specs.Steps.{kind_of, whole_index, assumed_index, close_pair, whole_at, whole_formula, any_at, any_formula, is_nil, same_side};
-ghost use Rattle.jd_first_rules.specs.Results.{Gives};
-ghost use Rattle.jd_first_steps.specs.Instances.{IsClose, IsRow, IsRewrite};
-ghost use Rattle.jd_first_steps.specs.declared.rules.FirstRule.TheVariants.{Close as Closure};
+ghost use Rattle.jd_sequent.specs.Rules.{IsCaused};
+ghost use Rattle.jd_first_steps.specs.Names.{rule_name};
+ghost use Rattle.jd_first_rules.specs.Steps.{kind_of};
+ghost use Rattle.jd_first_rules.specs.Causes.{whole_side, IsOn, IsAssumed, Cause};
+ghost use Rattle.jd_first_rules.specs.Results.{IsAt, AssumesRightly};
 
-use crate::rewrite::rewritten;
-use crate::rows::{goals_of, premises};
 use crate::rules::Kind;
 use jd_first_steps::FirstRule;
-use jd_model::{Node, Place, Sequent, Side, at, formula_numbered, formulas_on, put_at_place};
+use jd_model::{Node, Place, Sequent, Side, at, formula_numbered, formulas_on};
 use jd_sequent::{Bad, Step};
 use jd_term::Formula;
-use std::alloc::Global;
 
 /// What the rule acts on.
 pub fn kind(rule: FirstRule) -> Kind
@@ -37,25 +34,27 @@ pub fn kind(rule: FirstRule) -> Kind
     }
 }
 
-// The number of a whole formula on a side.
-fn index_of(place: &Option<Place>, side: Side) -> Option<u32>
-    ensures { result ≡ whole_index side (option_map place_view place.now) }
+// The side of the whole formula that the rule acts on; `None` where it acts at any place.
+fn side_of(rule: FirstRule) -> Option<Side>
+    ensures { result ≡ whole_side rule }
 {
-    match place {
-        None => None,
-        Some(place) => {
-            if is_side(place.side, side) && place.path.is_empty() {
-                Some(place.index)
-            } else {
-                None
-            }
+    match rule {
+        FirstRule::NotLeft | FirstRule::AndLeft => Some(Side::Left),
+        FirstRule::Close | FirstRule::CloseTrue | FirstRule::AndRight | FirstRule::ImpRight => {
+            Some(Side::Right)
         }
+        FirstRule::EqRefl
+        | FirstRule::SetSimple
+        | FirstRule::FrameReturn
+        | FirstRule::CatchEmpty
+        | FirstRule::EmptyCode
+        | FirstRule::Simplify => None,
     }
 }
 
-/// Whether the sides are the same.
-pub fn is_side(a: Side, b: Side) -> bool
-    ensures { result ≡ same_side a b }
+// Whether the sides are the same.
+fn is_side(a: Side, b: Side) -> bool
+    ensures { IsTrue result ↔ (a ≡ b) }
 {
     match (a, b) {
         (Side::Left, Side::Left) | (Side::Right, Side::Right) => true,
@@ -63,139 +62,72 @@ pub fn is_side(a: Side, b: Side) -> bool
     }
 }
 
-// The number of the one assumed formula.
-fn assumed(assumes: &[Option<Place>]) -> Option<u32>
-    ensures { result ≡ assumed_index (map (option_map place_view) assumes.now) }
+// Whether the place is that of a whole formula on the side, where one is given.
+fn is_on(side: Option<Side>, place: &Place) -> bool
+    ensures { IsTrue result ↔ IsOn side (place_view place.now) }
 {
-    match assumes {
-        [only] => index_of(only, Side::Left),
-        _ => None,
+    match side {
+        None => true,
+        Some(side) => is_side(place.side, side) && place.path.is_empty(),
     }
 }
 
-// The formula on the right and the assumed one on the left.
-fn pair<'a>(sequent: &'a Sequent, step: &Step) -> Option<(&'a Formula, &'a Formula)>
-    ensures { option_map (λ p. (formula_view p.0.now, formula_view p.1.now)) result ≡ close_pair (sequent_view sequent.now) (step_view step.now) }
-{
-    let Some(index) = index_of(&step.place, Side::Right) else {
-        return None
-    };
-    let Some(number) = assumed(&step.assumes) else {
-        return None
-    };
-    let Some(right) = formula_numbered(&sequent.right, index) else {
-        return None
-    };
-    let Some(left) = formula_numbered(&sequent.left, number) else {
-        return None
-    };
-    Some((right, left))
-}
-
-/// A step of `close`.
-pub fn close(alloc: Global, sequent: &Sequent, step: &Step) -> Result<Vec<Sequent>, Bad>
-    ensures { Gives (IsClose Closure (sequent_view sequent.now) (step_view step.now)) result }
-{
-    let Some((right, left)) = pair(sequent, step) else {
-        return Err(Bad::NoAssume)
-    };
-    if right.equals(left) {
-        return Ok(Vec::new(alloc));
-    }
-    Err(Bad::NoAssume)
-}
-
-// The place and the whole formula there of a step that assumes nothing.
-fn whole<'a>(sequent: &'a Sequent, step: &'a Step) -> Result<(&'a Place, &'a Formula), Bad>
+/// The formula at the step's place, if there is one and the rule acts on such a place.
+pub fn formula_at<'a>(
+    rule: FirstRule,
+    sequent: &'a Sequent,
+    step: &'a Step,
+) -> Result<(&'a Place, &'a Formula), Bad>
+    requires { (step_view step.now).rule ≡ rule_name rule }
     ensures { MatchResult result
-        (λ p. whole_formula (sequent_view sequent.now) (step_view step.now) ≡ Some (place_view p.0.now, formula_view p.1.now))
-        (λ bad. whole_formula (sequent_view sequent.now) (step_view step.now) ≡ None) }
+        (λ f. IsAt rule (sequent_view sequent.now) (step_view step.now) (place_view f.0.now) (formula_view f.1.now))
+        (λ bad. IsCaused (Cause (sequent_view sequent.now) (step_view step.now)) bad) }
 {
-    if !step.assumes.is_empty() {
-        return Err(Bad::NoAssume);
-    }
     let Some(place) = &step.place else {
         return Err(Bad::NoFormula)
     };
-    if !place.path.is_empty() {
-        return Err(Bad::WrongPlaceKind);
+    if formula_numbered(formulas_on(sequent, place.side), place.index).is_none() {
+        return Err(Bad::NoFormula);
     }
-    match formula_numbered(formulas_on(sequent, place.side), place.index) {
-        None => Err(Bad::NoFormula),
-        Some(formula) => Ok((place, formula)),
-    }
-}
-
-// The place and the formula there of a step that assumes nothing.
-fn anywhere<'a>(sequent: &'a Sequent, step: &'a Step) -> Result<(&'a Place, &'a Formula), Bad>
-    ensures { MatchResult result
-        (λ p. any_formula (sequent_view sequent.now) (step_view step.now) ≡ Some (place_view p.0.now, formula_view p.1.now))
-        (λ bad. any_formula (sequent_view sequent.now) (step_view step.now) ≡ None) }
-{
-    if !step.assumes.is_empty() {
-        return Err(Bad::NoAssume);
-    }
-    let Some(place) = &step.place else {
-        return Err(Bad::NoFormula)
-    };
     match at(sequent, place) {
         None => Err(Bad::NoPlace),
-        Some(Node::Formula(formula)) => Ok((place, formula)),
+        Some(Node::Formula(formula)) => {
+            if is_on(side_of(rule), place) {
+                Ok((place, formula))
+            } else {
+                Err(Bad::WrongPlaceKind)
+            }
+        }
         Some(Node::Term(_)) => Err(Bad::WrongPlaceKind),
         Some(Node::Loc(_)) => Err(Bad::WrongPlaceKind),
     }
 }
 
-/// A step at a whole formula.
-pub fn row(
-    alloc: Global,
-    rule: FirstRule,
-    sequent: &Sequent,
-    step: &Step,
-) -> Result<Vec<Sequent>, Bad>
-    ensures { Gives (IsRow rule (sequent_view sequent.now) (step_view step.now)) result }
+// Whether the one assumed formula is this one, on the left.
+fn is_assumed(sequent: &Sequent, assumes: &[Option<Place>], formula: &Formula) -> bool
+    ensures { IsTrue result ↔ IsAssumed (sequent_view sequent.now) (map (option_map place_view) assumes.now) (formula_view formula.now) }
 {
-    let (place, formula) = match whole(sequent, step) {
-        Err(bad) => return Err(bad),
-        Ok(found) => found,
-    };
-    match goals_of(alloc, rule, place.side, formula)? {
-        None => Err(Bad::NoMatch),
-        Some(goals) => {
-            let made = premises(alloc, sequent, place.side, place.index, &goals)?;
-            Ok(made)
-        }
+    let [Some(place)] = assumes else { return false };
+    if !is_on(Some(Side::Left), place) {
+        return false;
+    }
+    match formula_numbered(&sequent.left, place.index) {
+        None => false,
+        Some(left) => left.equals(formula),
     }
 }
 
-// The one premise as a list.
-fn single(alloc: Global, premise: Sequent) -> Result<Vec<Sequent>, Bad>
-    ensures only { IfOk result (λ v. map sequent_view v.items ≡ sequent_view premise ∷ []) }
-    ensures memory { OnErr result (result ≡ Err OutOfMemory) }
-{
-    let mut out = Vec::new(alloc);
-    out.push(premise)?;
-    Ok(out)
-}
-
-/// A step at a formula at any place.
-pub fn rewrite(
-    alloc: Global,
+/// Whether a step at the formula assumes what its rule wants.
+pub fn assumes_rightly(
     rule: FirstRule,
     sequent: &Sequent,
-    step: &Step,
-) -> Result<Vec<Sequent>, Bad>
-    ensures { Gives (IsRewrite rule (sequent_view sequent.now) (step_view step.now)) result }
+    assumes: &[Option<Place>],
+    formula: &Formula,
+) -> bool
+    ensures { IsTrue result ↔ AssumesRightly rule (sequent_view sequent.now) (map (option_map place_view) assumes.now) (formula_view formula.now) }
 {
-    let (place, before) = match anywhere(sequent, step) {
-        Err(bad) => return Err(bad),
-        Ok(found) => found,
-    };
-    match rewritten(alloc, rule, before)? {
-        None => Err(Bad::NoMatch),
-        Some(after) => {
-            let premise = put_at_place(alloc, sequent, place, after)?;
-            single(alloc, premise)
-        }
+    match rule {
+        FirstRule::Close => is_assumed(sequent, assumes, formula),
+        _ => assumes.is_empty(),
     }
 }
