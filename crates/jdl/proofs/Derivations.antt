@@ -1,5 +1,5 @@
--- What a tree derives is determined where each step's premises are.
-use Rattle.std.proofs.Common.{◌≡◌, List, [], ◌∷◌, ◌++◌, ap, sym, subst, ◌∙◌}
+-- What a tree derives is determined where each step's premises are, and so is its first bad step.
+use Rattle.std.proofs.Common.{◌≡◌, ℕ, List, [], ◌∷◌, ◌++◌, ap, sym, subst, ◌∙◌}
 use Rattle.jd_model.specs.Sequents.{PlainSequent}
 use Rattle.jd_sequent.specs.Trees.{PlainStep, ProofTree, OpenLeaf, ByStep, ProofTrees, NoTrees, TreeThen}
 use Rattle.jd_sequent.specs.Derives.{Derives, DeriveAll}
@@ -8,6 +8,11 @@ use Rattle.jd_sequent.specs.Derives.{Derives, DeriveAll}
 abbrev pub OneWay : (PlainSequent → PlainStep → List PlainSequent → Type 0) → Type 0
 OneWay leads =
     (s : PlainSequent) (p : PlainStep) (ps qs : List PlainSequent) → leads s p ps → leads s p qs → ps ≡ qs
+
+-- and then has no cause
+abbrev pub HasNoCause : (PlainSequent → PlainStep → List PlainSequent → Type 0) → (PlainSequent → PlainStep → ℕ → Type 0) → Type 0
+HasNoCause leads causes =
+    (s : PlainSequent) (p : PlainStep) (ps : List PlainSequent) (n : ℕ) → leads s p ps → causes s p n → ⊥
 
 mutual
   pub one_derivation : (leads : PlainSequent → PlainStep → List PlainSequent → Type 0) → OneWay leads → (t : ProofTree) (s : PlainSequent) (gs hs : List PlainSequent) → Derives leads t s gs → Derives leads t s hs → gs ≡ hs

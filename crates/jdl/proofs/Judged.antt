@@ -14,18 +14,18 @@ use Rattle.jdl.specs.declared.status.Status.{Status}
 use Rattle.jdl.specs.declared.status.Status.TheVariants.{RefusedSource, RefusedScript, Limit}
 
 -- the Java file is no program
-pub source_refused : (leads : Program → PlainSequent → PlainStep → List PlainSequent → Type 0) (words : List (List ℕ)) (contents : List ℕ → Option (List ℕ)) (proof file proof_bytes file_bytes text name : List ℕ) → AreRead words contents proof file proof_bytes file_bytes → ((q : Program) → java.Reads file_bytes q → ⊥) → name ≡ file → text ≡ refused_text name → IsAnswer leads words contents RefusedSource text
-source_refused leads words contents proof file proof_bytes file_bytes text name read none same is =
+pub source_refused : (leads : Program → PlainSequent → PlainStep → List PlainSequent → Type 0) (causes : Program → PlainSequent → PlainStep → ℕ → Type 0) (words : List (List ℕ)) (contents : List ℕ → Option (List ℕ)) (proof file proof_bytes file_bytes text name : List ℕ) → AreRead words contents proof file proof_bytes file_bytes → ((q : Program) → java.Reads file_bytes q → ⊥) → name ≡ file → text ≡ refused_text name → IsAnswer leads causes words contents RefusedSource text
+source_refused leads causes words contents proof file proof_bytes file_bytes text name read none same is =
     rw (is, same) (no_program proof file proof_bytes file_bytes read none)
 
 -- the proof file is no script
-pub script_refused : (leads : Program → PlainSequent → PlainStep → List PlainSequent → Type 0) (words : List (List ℕ)) (contents : List ℕ → Option (List ℕ)) (proof file proof_bytes file_bytes text name called : List ℕ) (q : Program) → AreRead words contents proof file proof_bytes file_bytes → java.Reads file_bytes q → called ≡ obligation_name q → ((s : PlainScript) → script.Reads called proof_bytes s → ⊥) → name ≡ proof → text ≡ refused_text name → IsAnswer leads words contents RefusedScript text
-script_refused leads words contents proof file proof_bytes file_bytes text name called q read reads called_is none same is =
+pub script_refused : (leads : Program → PlainSequent → PlainStep → List PlainSequent → Type 0) (causes : Program → PlainSequent → PlainStep → ℕ → Type 0) (words : List (List ℕ)) (contents : List ℕ → Option (List ℕ)) (proof file proof_bytes file_bytes text name called : List ℕ) (q : Program) → AreRead words contents proof file proof_bytes file_bytes → java.Reads file_bytes q → called ≡ obligation_name q → ((s : PlainScript) → script.Reads called proof_bytes s → ⊥) → name ≡ proof → text ≡ refused_text name → IsAnswer leads causes words contents RefusedScript text
+script_refused leads causes words contents proof file proof_bytes file_bytes text name called q read reads called_is none same is =
     rw (is, same) (no_script proof file proof_bytes file_bytes q read reads (λ s. rw (← called_is) (none s)))
 
 -- the report, or that it is too long
-pub limited_report : (leads : Program → PlainSequent → PlainStep → List PlainSequent → Type 0) (words : List (List ℕ)) (contents : List ℕ → Option (List ℕ)) (proof file proof_bytes file_bytes called : List ℕ) (q : Program) (s : PlainScript) (status status' : Status) (text text' : List ℕ) → AreRead words contents proof file proof_bytes file_bytes → java.Reads file_bytes q → called ≡ obligation_name q → script.Reads called proof_bytes s → IsReport (leads q) (obligation_name q) (obligation_sequent q) s status text → (report_limit < length text → (status' ≡ Limit) × (text' ≡ report_limit_text)) → (length text ≤ report_limit → (status' ≡ status) × (text' ≡ text)) → IsAnswer leads words contents status' text'
-limited_report leads words contents proof file proof_bytes file_bytes called q s status status' text text' read reads called_is script_reads report long short =
+pub limited_report : (leads : Program → PlainSequent → PlainStep → List PlainSequent → Type 0) (causes : Program → PlainSequent → PlainStep → ℕ → Type 0) (words : List (List ℕ)) (contents : List ℕ → Option (List ℕ)) (proof file proof_bytes file_bytes called : List ℕ) (q : Program) (s : PlainScript) (status status' : Status) (text text' : List ℕ) → AreRead words contents proof file proof_bytes file_bytes → java.Reads file_bytes q → called ≡ obligation_name q → script.Reads called proof_bytes s → IsReport (leads q) (causes q) (obligation_name q) (obligation_sequent q) s status text → (report_limit < length text → (status' ≡ Limit) × (text' ≡ report_limit_text)) → (length text ≤ report_limit → (status' ≡ status) × (text' ≡ text)) → IsAnswer leads causes words contents status' text'
+limited_report leads causes words contents proof file proof_bytes file_bytes called q s status status' text text' read reads called_is script_reads report long short =
     let named = subst (λ n. script.Reads n proof_bytes s) called_is script_reads in
     elim (cases_lt report_limit (length text)) [
       | inl past ↦ rw ((long past).0, (long past).1) (long_report proof file proof_bytes file_bytes q s status text read reads named report past)

@@ -58,14 +58,14 @@ length-cause (BranchCount script rule) =
     omega (arith, length-decimal script, length-decimal rule, length-append (decimal script) (32 ∷ decimal rule))
 
 -- a report has at most 300 bytes beside the name
-pub length-report : (leads : PlainSequent → PlainStep → List PlainSequent → Type 0) (name : List ℕ) (goal : PlainSequent) (s : PlainScript) (status : Status) (text : List ℕ) → IsReport leads name goal s status text → length text ≤ length name + 300
-length-report leads name goal s status text (missing none) =
+pub length-report : (leads : PlainSequent → PlainStep → List PlainSequent → Type 0) (causes : PlainSequent → PlainStep → ℕ → Type 0) (name : List ℕ) (goal : PlainSequent) (s : PlainScript) (status : Status) (text : List ℕ) → IsReport leads causes name goal s status text → length text ≤ length name + 300
+length-report leads causes name goal s status text (missing none) =
     simp length-append (omega arith)
-length-report leads name goal s status text (closed tree one derived) =
+length-report leads causes name goal s status text (closed tree one derived) =
     let few = length-decimal (steps_in tree) in simp length-append (omega arith)
-length-report leads name goal s status text (opened tree goals one derived some) =
+length-report leads causes name goal s status text (opened tree goals one derived some) =
     let few = length-decimal (length goals) in simp length-append (omega arith)
-length-report leads name goal s status text (broken tree node cause one none) =
+length-report leads causes name goal s status text (broken tree node cause one first) =
     let few = length-decimal node in let more = length-cause cause in simp length-append (omega arith)
 
 -- no lexeme is longer than the bytes

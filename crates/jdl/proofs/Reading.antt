@@ -11,14 +11,14 @@ use Rattle.jdl.specs.Answers.{proof_limit, file_limit, AreRead, IsAnswer, long_p
 use Rattle.jdl.specs.declared.status.Status.TheVariants.{Limit}
 
 -- the proof file is too long
-pub proof_past : (leads : Program → PlainSequent → PlainStep → List PlainSequent → Type 0) (words : List (List ℕ)) (contents : List ℕ → Option (List ℕ)) (proof file text : List ℕ) → replay_words words ≡ Some (proof, file) → ForSome (contents proof) (λ told. proof_limit < length told) → text ≡ proof_limit_text → IsTold words contents → IsAnswer leads words contents Limit text
-proof_past leads words contents proof file text are past is told =
+pub proof_past : (leads : Program → PlainSequent → PlainStep → List PlainSequent → Type 0) (causes : Program → PlainSequent → PlainStep → ℕ → Type 0) (words : List (List ℕ)) (contents : List ℕ → Option (List ℕ)) (proof file text : List ℕ) → replay_words words ≡ Some (proof, file) → ForSome (contents proof) (λ told. proof_limit < length told) → text ≡ proof_limit_text → IsTold words contents → IsAnswer leads causes words contents Limit text
+proof_past leads causes words contents proof file text are past is told =
     let here = told proof file are in
     rw is (long_proof proof file here.0 are here.1 (past here.0 here.1))
 
 -- the Java file is too long
-pub file_past : (leads : Program → PlainSequent → PlainStep → List PlainSequent → Type 0) (words : List (List ℕ)) (contents later : List ℕ → Option (List ℕ)) (proof file text : List ℕ) → replay_words words ≡ Some (proof, file) → ForSome (contents proof) (λ told. length told ≤ proof_limit) → SameContents contents later → ForSome (later file) (λ told. file_limit < length told) → text ≡ file_limit_text → IsTold words contents → IsAnswer leads words contents Limit text
-file_past leads words contents later proof file text are within same past is told =
+pub file_past : (leads : Program → PlainSequent → PlainStep → List PlainSequent → Type 0) (causes : Program → PlainSequent → PlainStep → ℕ → Type 0) (words : List (List ℕ)) (contents later : List ℕ → Option (List ℕ)) (proof file text : List ℕ) → replay_words words ≡ Some (proof, file) → ForSome (contents proof) (λ told. length told ≤ proof_limit) → SameContents contents later → ForSome (later file) (λ told. file_limit < length told) → text ≡ file_limit_text → IsTold words contents → IsAnswer leads causes words contents Limit text
+file_past leads causes words contents later proof file text are within same past is told =
     let here = told proof file are in
     let fits = within here.0 here.1 in
     let there = here.2 fits in

@@ -10,7 +10,7 @@ use Rattle.jd_replay.specs.declared.verdict.Verdict.{Verdict}
 use Rattle.jd_first_java.specs.Programs.{Program, IsValue, Operand, Parameter, Literal, Result}
 use Rattle.jd_first_oblig.specs.Obligations.{obligation_sequent, obligation_of, contracts_of, IsLiteralInRange}
 use Rattle.jd_first_meaning.specs.ClosedPrograms.{task_of}
-use Rattle.jdl.specs.Answers.{AcceptsObligations, leads_of}
+use Rattle.jdl.specs.Answers.{AcceptsObligations, leads_of, causes_of}
 
 -- a value of a program is a literal in range, if it is a literal
 pub literal_in_range : (ps : List (List ℕ)) (o : Operand) → IsValue ps o → IsLiteralInRange o
@@ -31,6 +31,6 @@ pub accepts_its_sequent : (accepts : PlainTask → PlainSequent → Type 0) → 
 accepts_its_sequent accepts all q t s is sequent_is = rw (is, sequent_is) (all q)
 
 -- the verdict on a task that is a program's
-pub verdict_of_program : (instance : PlainTask → PlainSequent → PlainStep → List PlainSequent → Type 0) (q : Program) (t : PlainTask) (s : PlainSequent) (tree : ProofTree) (verdict : Verdict) → t ≡ task_of q → s ≡ obligation_sequent q → IsVerdict (LeadsWithinLimits (instance t)) tree s verdict → IsVerdict (leads_of instance q) tree (obligation_sequent q) verdict
-verdict_of_program instance q t s tree verdict is sequent_is given =
-    subst (λ u. IsVerdict (leads_of instance q) tree u verdict) sequent_is (subst (λ u. IsVerdict (LeadsWithinLimits (instance u)) tree s verdict) is given)
+pub verdict_of_program : (instance : PlainTask → PlainSequent → PlainStep → List PlainSequent → Type 0) (cause : PlainTask → PlainSequent → PlainStep → ℕ → Type 0) (q : Program) (t : PlainTask) (s : PlainSequent) (tree : ProofTree) (verdict : Verdict) → t ≡ task_of q → s ≡ obligation_sequent q → IsVerdict (LeadsWithinLimits (instance t)) (cause t) tree s verdict → IsVerdict (leads_of instance q) (causes_of cause q) tree (obligation_sequent q) verdict
+verdict_of_program instance cause q t s tree verdict is sequent_is given =
+    subst (λ u. IsVerdict (leads_of instance q) (causes_of cause q) tree u verdict) sequent_is (subst (λ u. IsVerdict (LeadsWithinLimits (instance u)) (cause u) tree s verdict) is given)

@@ -1,7 +1,10 @@
--- The answer's status is determined.
-use Rattle.std.proofs.Common.{◌≡◌, ◌<◌, inl, inr, ℕ, List, length, Option, Some, None, ap, sym, refl, subst, ◌∙◌, arith}
+-- The answer is determined: its status and its text.
+use Rattle.std.proofs.Common.{◌≡◌, ◌<◌, ◌≤◌, ℕ, List, [], length, Option, Some, None, ap, sym, refl, subst, ◌∙◌, arith}
 use Rattle.jd_model.specs.Sequents.{PlainSequent}
-use Rattle.jd_sequent.specs.Trees.{PlainStep}
+use Rattle.jd_sequent.specs.Trees.{PlainStep, steps_in}
+use Rattle.jd_sequent.specs.Derives.{Derives}
+use Rattle.jd_replay.specs.FirstBad.{FirstBad}
+use Rattle.jd_replay.proofs.OneFirstBad.{bad_derives_nothing, one_first_bad}
 use Rattle.jd_first_java.specs.Programs.{Program}
 use Rattle.jd_first_java.specs.Reads as java
 use Rattle.jd_first_java.proofs.Meaning.{one_meaning}
@@ -10,32 +13,54 @@ use Rattle.jd_first_script.specs.Scripts.{PlainScript}
 use Rattle.jd_first_script.proofs.Files.{one_script}
 use Rattle.jd_first_oblig.specs.Obligations.{obligation_name, obligation_sequent}
 use Rattle.jdl.specs.Words.{replay_words}
-use Rattle.jdl.specs.Reports.{IsReport}
+use Rattle.jdl.specs.Reports.{IsReport, missing, closed, opened, broken, closed_text, open_text, bad_text, usage_text, refused_text, proof_limit_text, file_limit_text}
 use Rattle.jdl.specs.Answers.{proof_limit, file_limit, AreRead, IsAnswer, usage, long_proof, long_file, no_program, no_script, long_report, replayed}
 use Rattle.jdl.specs.declared.status.Status.{Status}
 use Rattle.jdl.specs.declared.status.Status.TheVariants.{Usage, RefusedSource, RefusedScript, Limit}
-use Rattle.jdl.proofs.Derivations.{OneWay}
+use Rattle.jdl.proofs.Derivations.{OneWay, HasNoCause, one_derivation}
 use Rattle.jdl.proofs.Lengths.{length-report, length-name}
-use Rattle.jdl.proofs.Outcomes.{report_done, report_not_accepted, report_status}
 
 -- ---- one report
 
-pub one_report : (leads : PlainSequent → PlainStep → List PlainSequent → Type 0) → OneWay leads → (name : List ℕ) (goal : PlainSequent) (s : PlainScript) (status other : Status) (text another : List ℕ) → IsReport leads name goal s status text → IsReport leads name goal s other another → status ≡ other
-one_report leads way name goal s status other text another report again =
-    elim (report_status leads name goal s status text report) [
-      | inl here ↦
-          elim (report_status leads name goal s other another again) [
-            | inl there ↦ here ∙ sym there
-            | inr there ↦ (let done = report_done leads name goal s status text report here in
-                absurd (report_not_accepted leads way name goal s other another again there done.0 done.1 done.2))
-          ]
-      | inr here ↦
-          elim (report_status leads name goal s other another again) [
-            | inl there ↦ (let done = report_done leads name goal s other another again there in
-                absurd (report_not_accepted leads way name goal s status text report here done.0 done.1 done.2))
-            | inr there ↦ here ∙ sym there
-          ]
-    ]
+pub one_report : (leads : PlainSequent → PlainStep → List PlainSequent → Type 0) (causes : PlainSequent → PlainStep → ℕ → Type 0) → OneWay leads → HasNoCause leads causes → (name : List ℕ) (goal : PlainSequent) (s : PlainScript) (status other : Status) (text another : List ℕ) → IsReport leads causes name goal s status text → IsReport leads causes name goal s other another → (status ≡ other) × (text ≡ another)
+one_report leads causes way free name goal s status other text another (missing none) (missing none') = (refl, refl)
+one_report leads causes way free name goal s status other text another (missing none) (closed tree one derived) = absurd cc
+one_report leads causes way free name goal s status other text another (missing none) (opened tree goals one derived some) = absurd cc
+one_report leads causes way free name goal s status other text another (missing none) (broken tree node cause one first) = absurd cc
+one_report leads causes way free name goal s status other text another (closed tree one derived) (missing none) = absurd cc
+one_report leads causes way free name goal s status other text another (closed tree one derived) (closed tree' one' derived') =
+    let trees : tree ≡ tree' = cc in
+    (refl, ap (λ t. closed_text name (steps_in t)) trees)
+one_report leads causes way free name goal s status other text another (closed tree one derived) (opened tree' goals one' derived' some) =
+    let trees : tree ≡ tree' = cc in
+    let empty = one_derivation leads way tree' goal goals [] derived' (subst (λ t. Derives leads t goal []) trees derived) in
+    absurd (omega (arith, ap length empty, some))
+one_report leads causes way free name goal s status other text another (closed tree one derived) (broken tree' node cause one' first) =
+    let trees : tree ≡ tree' = cc in
+    absurd (bad_derives_nothing leads causes way free tree' goal node cause [] first (subst (λ t. Derives leads t goal []) trees derived))
+one_report leads causes way free name goal s status other text another (opened tree goals one derived some) (missing none) = absurd cc
+one_report leads causes way free name goal s status other text another (opened tree goals one derived some) (closed tree' one' derived') =
+    let trees : tree' ≡ tree = cc in
+    let empty = one_derivation leads way tree goal goals [] derived (subst (λ t. Derives leads t goal []) trees derived') in
+    absurd (omega (arith, ap length empty, some))
+one_report leads causes way free name goal s status other text another (opened tree goals one derived some) (opened tree' goals' one' derived' some') =
+    let trees : tree ≡ tree' = cc in
+    let same = one_derivation leads way tree' goal goals goals' (subst (λ t. Derives leads t goal goals) trees derived) derived' in
+    (refl, ap (λ l. open_text name (length l)) same)
+one_report leads causes way free name goal s status other text another (opened tree goals one derived some) (broken tree' node cause one' first) =
+    let trees : tree ≡ tree' = cc in
+    absurd (bad_derives_nothing leads causes way free tree' goal node cause goals first (subst (λ t. Derives leads t goal goals) trees derived))
+one_report leads causes way free name goal s status other text another (broken tree node cause one first) (missing none) = absurd cc
+one_report leads causes way free name goal s status other text another (broken tree node cause one first) (closed tree' one' derived) =
+    let trees : tree' ≡ tree = cc in
+    absurd (bad_derives_nothing leads causes way free tree goal node cause [] first (subst (λ t. Derives leads t goal []) trees derived))
+one_report leads causes way free name goal s status other text another (broken tree node cause one first) (opened tree' goals one' derived some) =
+    let trees : tree' ≡ tree = cc in
+    absurd (bad_derives_nothing leads causes way free tree goal node cause goals first (subst (λ t. Derives leads t goal goals) trees derived))
+one_report leads causes way free name goal s status other text another (broken tree node cause one first) (broken tree' node' cause' one' first') =
+    let trees : tree ≡ tree' = cc in
+    let same = one_first_bad leads causes way free tree' goal node node' cause cause' (subst (λ t. FirstBad leads causes t goal node cause) trees first) first' in
+    (refl, ap (λ n. bad_text name n cause) same.0 ∙ ap (bad_text name node') same.1)
 
 -- ---- files that are read
 
@@ -48,54 +73,54 @@ same_files words proof file proof' file' one other =
 same_bytes : (contents : List ℕ → Option (List ℕ)) (name name' bytes bytes' : List ℕ) → name ≡ name' → contents name ≡ Some bytes → contents name' ≡ Some bytes' → bytes ≡ bytes'
 same_bytes contents name name' bytes bytes' same one other = cc
 
--- what is said of the bytes of both files
-pub data IsJudgedAs (leads : Program → PlainSequent → PlainStep → List PlainSequent → Type 0) (proof_bytes file_bytes : List ℕ) : Status → Type 0 where
-  source : ((q : Program) → java.Reads file_bytes q → ⊥) → IsJudgedAs leads proof_bytes file_bytes RefusedSource
-  proof : (q : Program) → java.Reads file_bytes q → ((s : PlainScript) → script.Reads (obligation_name q) proof_bytes s → ⊥) → IsJudgedAs leads proof_bytes file_bytes RefusedScript
-  report : (q : Program) (s : PlainScript) (status : Status) (text : List ℕ) → java.Reads file_bytes q → script.Reads (obligation_name q) proof_bytes s → IsReport (leads q) (obligation_name q) (obligation_sequent q) s status text → IsJudgedAs leads proof_bytes file_bytes status
+-- what is said of the bytes of both files, which have these names
+pub data IsJudgedAs (leads : Program → PlainSequent → PlainStep → List PlainSequent → Type 0) (causes : Program → PlainSequent → PlainStep → ℕ → Type 0) (p f proof_bytes file_bytes : List ℕ) : Status → List ℕ → Type 0 where
+  source : ((q : Program) → java.Reads file_bytes q → ⊥) → IsJudgedAs leads causes p f proof_bytes file_bytes RefusedSource (refused_text f)
+  proof : (q : Program) → java.Reads file_bytes q → ((s : PlainScript) → script.Reads (obligation_name q) proof_bytes s → ⊥) → IsJudgedAs leads causes p f proof_bytes file_bytes RefusedScript (refused_text p)
+  report : (q : Program) (s : PlainScript) (status : Status) (text : List ℕ) → java.Reads file_bytes q → script.Reads (obligation_name q) proof_bytes s → IsReport (leads q) (causes q) (obligation_name q) (obligation_sequent q) s status text → IsJudgedAs leads causes p f proof_bytes file_bytes status text
 
-one_judgement : (leads : Program → PlainSequent → PlainStep → List PlainSequent → Type 0) → ((q : Program) → OneWay (leads q)) → (proof_bytes file_bytes : List ℕ) (status other : Status) → IsJudgedAs leads proof_bytes file_bytes status → IsJudgedAs leads proof_bytes file_bytes other → status ≡ other
-one_judgement leads way pb fb status other (source none) (source none') = refl
-one_judgement leads way pb fb status other (source none) (proof q reads refuses) = absurd (none q reads)
-one_judgement leads way pb fb status other (source none) (report q s status' text reads script_reads is) = absurd (none q reads)
-one_judgement leads way pb fb status other (proof q reads refuses) (source none) = absurd (none q reads)
-one_judgement leads way pb fb status other (proof q reads refuses) (proof q' reads' refuses') = refl
-one_judgement leads way pb fb status other (proof q reads refuses) (report q' s status' text reads' script_reads is) =
+one_judgement : (leads : Program → PlainSequent → PlainStep → List PlainSequent → Type 0) (causes : Program → PlainSequent → PlainStep → ℕ → Type 0) → ((q : Program) → OneWay (leads q)) → ((q : Program) → HasNoCause (leads q) (causes q)) → (p f pb fb : List ℕ) (status other : Status) (text another : List ℕ) → IsJudgedAs leads causes p f pb fb status text → IsJudgedAs leads causes p f pb fb other another → (status ≡ other) × (text ≡ another)
+one_judgement leads causes way free p f pb fb status other text another (source none) (source none') = (refl, refl)
+one_judgement leads causes way free p f pb fb status other text another (source none) (proof q reads refuses) = absurd (none q reads)
+one_judgement leads causes way free p f pb fb status other text another (source none) (report q s status' text' reads script_reads is) = absurd (none q reads)
+one_judgement leads causes way free p f pb fb status other text another (proof q reads refuses) (source none) = absurd (none q reads)
+one_judgement leads causes way free p f pb fb status other text another (proof q reads refuses) (proof q' reads' refuses') = (refl, refl)
+one_judgement leads causes way free p f pb fb status other text another (proof q reads refuses) (report q' s status' text' reads' script_reads is) =
     absurd (refuses s (subst (λ p. script.Reads (obligation_name p) pb s) (one_meaning fb q' q reads' reads) script_reads))
-one_judgement leads way pb fb status other (report q s status' text reads script_reads is) (source none) = absurd (none q reads)
-one_judgement leads way pb fb status other (report q s status' text reads script_reads is) (proof q' reads' refuses) =
+one_judgement leads causes way free p f pb fb status other text another (report q s status' text' reads script_reads is) (source none) = absurd (none q reads)
+one_judgement leads causes way free p f pb fb status other text another (report q s status' text' reads script_reads is) (proof q' reads' refuses) =
     absurd (refuses s (subst (λ p. script.Reads (obligation_name p) pb s) (one_meaning fb q q' reads reads') script_reads))
-one_judgement leads way pb fb status other (report q s status' text reads script_reads is) (report q' s' other' another reads' script_reads' is') =
+one_judgement leads causes way free p f pb fb status other text another (report q s status' text' reads script_reads is) (report q' s' other' another' reads' script_reads' is') =
     let programs = one_meaning fb q' q reads' reads in
     let scripts = one_script (obligation_name q) pb s' s (subst (λ p. script.Reads (obligation_name p) pb s') programs script_reads') script_reads in
-    one_report (leads q) (way q) (obligation_name q) (obligation_sequent q) s status other text another is
-    (subst (λ t. IsReport (leads q) (obligation_name q) (obligation_sequent q) t other another) scripts (subst (λ p. IsReport (leads p) (obligation_name p) (obligation_sequent p) s' other another) programs is'))
+    one_report (leads q) (causes q) (way q) (free q) (obligation_name q) (obligation_sequent q) s status other text another is
+    (subst (λ t. IsReport (leads q) (causes q) (obligation_name q) (obligation_sequent q) t other another) scripts (subst (λ p. IsReport (leads p) (causes p) (obligation_name p) (obligation_sequent p) s' other another) programs is'))
 
 -- files that are read have one pair of contents
-pub judged_as : (leads : Program → PlainSequent → PlainStep → List PlainSequent → Type 0) (words : List (List ℕ)) (contents : List ℕ → Option (List ℕ)) (proof file proof_bytes file_bytes : List ℕ) (status : Status) (text : List ℕ) → AreRead words contents proof file proof_bytes file_bytes → IsAnswer leads words contents status text → IsJudgedAs leads proof_bytes file_bytes status
-judged_as leads words contents p f pb fb status text read (usage none) = absurd (let are = read.words_ in cc)
-judged_as leads words contents p f pb fb status text read (long_proof p' f' bytes are told past) =
+pub judged_as : (leads : Program → PlainSequent → PlainStep → List PlainSequent → Type 0) (causes : Program → PlainSequent → PlainStep → ℕ → Type 0) (words : List (List ℕ)) (contents : List ℕ → Option (List ℕ)) (proof file proof_bytes file_bytes : List ℕ) (status : Status) (text : List ℕ) → AreRead words contents proof file proof_bytes file_bytes → IsAnswer leads causes words contents status text → IsJudgedAs leads causes proof file proof_bytes file_bytes status text
+judged_as leads causes words contents p f pb fb status text read (usage none) = absurd (let are = read.words_ in cc)
+judged_as leads causes words contents p f pb fb status text read (long_proof p' f' bytes are told past) =
     let files = same_files words p f p' f' read.words_ are in
     let same = same_bytes contents p p' pb bytes files.0 read.proof_told told in
     absurd (omega (arith, ap length same, read.proof_within))
-judged_as leads words contents p f pb fb status text read (long_file p' f' pb' bytes are proof_told within told past) =
+judged_as leads causes words contents p f pb fb status text read (long_file p' f' pb' bytes are proof_told within told past) =
     let files = same_files words p f p' f' read.words_ are in
     let same = same_bytes contents f f' fb bytes files.1 read.file_told told in
     absurd (omega (arith, ap length same, read.file_within))
-judged_as leads words contents p f pb fb status text read (no_program p' f' pb' fb' read' none) =
+judged_as leads causes words contents p f pb fb status text read (no_program p' f' pb' fb' read' none) =
     let files = same_files words p f p' f' read.words_ read'.words_ in
     let bytes = same_bytes contents f f' fb fb' files.1 read.file_told read'.file_told in
-    source (λ q reads. none q (subst (λ b. java.Reads b q) bytes reads))
-judged_as leads words contents p f pb fb status text read (no_script p' f' pb' fb' q read' reads none) =
+    subst (λ x. IsJudgedAs leads causes p f pb fb RefusedSource (refused_text x)) files.1 (source (λ q reads. none q (subst (λ b. java.Reads b q) bytes reads)))
+judged_as leads causes words contents p f pb fb status text read (no_script p' f' pb' fb' q read' reads none) =
     let files = same_files words p f p' f' read.words_ read'.words_ in
     let bytes = same_bytes contents f f' fb fb' files.1 read.file_told read'.file_told in
     let proofs = same_bytes contents p p' pb pb' files.0 read.proof_told read'.proof_told in
-    proof q (subst (λ b. java.Reads b q) (sym bytes) reads) (λ s script_reads. none s (subst (λ b. script.Reads (obligation_name q) b s) proofs script_reads))
-judged_as leads words contents p f pb fb status text read (long_report p' f' pb' fb' q s status' text' read' reads script_reads is past) =
-    let few = length-report (leads q) (obligation_name q) (obligation_sequent q) s status' text' is in
+    subst (λ x. IsJudgedAs leads causes p f pb fb RefusedScript (refused_text x)) files.0 (proof q (subst (λ b. java.Reads b q) (sym bytes) reads) (λ s script_reads. none s (subst (λ b. script.Reads (obligation_name q) b s) proofs script_reads)))
+judged_as leads causes words contents p f pb fb status text read (long_report p' f' pb' fb' q s status' text' read' reads script_reads is past) =
+    let few = length-report (leads q) (causes q) (obligation_name q) (obligation_sequent q) s status' text' is in
     let short = length-name fb' q reads in
     absurd (omega (arith, few, short, read'.file_within))
-judged_as leads words contents p f pb fb status text read (replayed p' f' pb' fb' q s status' text' read' reads script_reads is within) =
+judged_as leads causes words contents p f pb fb status text read (replayed p' f' pb' fb' q s status' text' read' reads script_reads is within) =
     let files = same_files words p f p' f' read.words_ read'.words_ in
     let bytes = same_bytes contents f f' fb fb' files.1 read.file_told read'.file_told in
     let proofs = same_bytes contents p p' pb pb' files.0 read.proof_told read'.proof_told in
@@ -103,14 +128,14 @@ judged_as leads words contents p f pb fb status text read (replayed p' f' pb' fb
 
 -- ---- words that are no command, and files that are too long
 
-no_command : (leads : Program → PlainSequent → PlainStep → List PlainSequent → Type 0) (words : List (List ℕ)) (contents : List ℕ → Option (List ℕ)) (status : Status) (text : List ℕ) → replay_words words ≡ None → IsAnswer leads words contents status text → status ≡ Usage
-no_command leads words contents status text others (usage none) = refl
-no_command leads words contents status text others (long_proof p f bytes are told past) = absurd cc
-no_command leads words contents status text others (long_file p f pb bytes are proof_told within told past) = absurd cc
-no_command leads words contents status text others (no_program p f pb fb read none) = absurd (let are = read.words_ in cc)
-no_command leads words contents status text others (no_script p f pb fb q read reads none) = absurd (let are = read.words_ in cc)
-no_command leads words contents status text others (long_report p f pb fb q s status' text' read reads script_reads is past) = absurd (let are = read.words_ in cc)
-no_command leads words contents status text others (replayed p f pb fb q s status' text' read reads script_reads is within) = absurd (let are = read.words_ in cc)
+no_command : (leads : Program → PlainSequent → PlainStep → List PlainSequent → Type 0) (causes : Program → PlainSequent → PlainStep → ℕ → Type 0) (words : List (List ℕ)) (contents : List ℕ → Option (List ℕ)) (status : Status) (text : List ℕ) → replay_words words ≡ None → IsAnswer leads causes words contents status text → (status ≡ Usage) × (text ≡ usage_text)
+no_command leads causes words contents status text others (usage none) = (refl, refl)
+no_command leads causes words contents status text others (long_proof p f bytes are told past) = absurd cc
+no_command leads causes words contents status text others (long_file p f pb bytes are proof_told within told past) = absurd cc
+no_command leads causes words contents status text others (no_program p f pb fb read none) = absurd (let are = read.words_ in cc)
+no_command leads causes words contents status text others (no_script p f pb fb q read reads none) = absurd (let are = read.words_ in cc)
+no_command leads causes words contents status text others (long_report p f pb fb q s status' text' read reads script_reads is past) = absurd (let are = read.words_ in cc)
+no_command leads causes words contents status text others (replayed p f pb fb q s status' text' read reads script_reads is within) = absurd (let are = read.words_ in cc)
 
 not_read : (words : List (List ℕ)) (contents : List ℕ → Option (List ℕ)) (p f bytes p' f' pb' fb' : List ℕ) → replay_words words ≡ Some (p, f) → contents p ≡ Some bytes → proof_limit < length bytes → AreRead words contents p' f' pb' fb' → ⊥
 not_read words contents p f bytes p' f' pb' fb' are told past read =
@@ -118,16 +143,20 @@ not_read words contents p f bytes p' f' pb' fb' are told past read =
     let same = same_bytes contents p p' bytes pb' files.0 told read.proof_told in
     omega (arith, ap length same, read.proof_within)
 
-proof_is_past : (leads : Program → PlainSequent → PlainStep → List PlainSequent → Type 0) (words : List (List ℕ)) (contents : List ℕ → Option (List ℕ)) (p f bytes : List ℕ) (status : Status) (text : List ℕ) → replay_words words ≡ Some (p, f) → contents p ≡ Some bytes → proof_limit < length bytes → IsAnswer leads words contents status text → status ≡ Limit
-proof_is_past leads words contents p f bytes status text are told past (usage none) = absurd cc
-proof_is_past leads words contents p f bytes status text are told past (long_proof p' f' bytes' are' told' past') = refl
-proof_is_past leads words contents p f bytes status text are told past (long_file p' f' pb' bytes' are' proof_told' within told' past') = refl
-proof_is_past leads words contents p f bytes status text are told past (no_program p' f' pb' fb' read none) =
+proof_is_past : (leads : Program → PlainSequent → PlainStep → List PlainSequent → Type 0) (causes : Program → PlainSequent → PlainStep → ℕ → Type 0) (words : List (List ℕ)) (contents : List ℕ → Option (List ℕ)) (p f bytes : List ℕ) (status : Status) (text : List ℕ) → replay_words words ≡ Some (p, f) → contents p ≡ Some bytes → proof_limit < length bytes → IsAnswer leads causes words contents status text → (status ≡ Limit) × (text ≡ proof_limit_text)
+proof_is_past leads causes words contents p f bytes status text are told past (usage none) = absurd cc
+proof_is_past leads causes words contents p f bytes status text are told past (long_proof p' f' bytes' are' told' past') = (refl, refl)
+proof_is_past leads causes words contents p f bytes status text are told past (long_file p' f' pb' bytes' are' proof_told' within told' past') =
+    let files = same_files words p f p' f' are are' in
+    let same = same_bytes contents p p' bytes pb' files.0 told proof_told' in
+    absurd (omega (arith, ap length same, past, within))
+proof_is_past leads causes words contents p f bytes status text are told past (no_program p' f' pb' fb' read none) =
     absurd (not_read words contents p f bytes p' f' pb' fb' are told past read)
-proof_is_past leads words contents p f bytes status text are told past (no_script p' f' pb' fb' q read reads none) =
+proof_is_past leads causes words contents p f bytes status text are told past (no_script p' f' pb' fb' q read reads none) =
     absurd (not_read words contents p f bytes p' f' pb' fb' are told past read)
-proof_is_past leads words contents p f bytes status text are told past (long_report p' f' pb' fb' q s status' text' read reads script_reads is long) = refl
-proof_is_past leads words contents p f bytes status text are told past (replayed p' f' pb' fb' q s status' text' read reads script_reads is within) =
+proof_is_past leads causes words contents p f bytes status text are told past (long_report p' f' pb' fb' q s status' text' read reads script_reads is long) =
+    absurd (not_read words contents p f bytes p' f' pb' fb' are told past read)
+proof_is_past leads causes words contents p f bytes status text are told past (replayed p' f' pb' fb' q s status' text' read reads script_reads is within) =
     absurd (not_read words contents p f bytes p' f' pb' fb' are told past read)
 
 file_not_read : (words : List (List ℕ)) (contents : List ℕ → Option (List ℕ)) (p f bytes p' f' pb' fb' : List ℕ) → replay_words words ≡ Some (p, f) → contents f ≡ Some bytes → file_limit < length bytes → AreRead words contents p' f' pb' fb' → ⊥
@@ -136,36 +165,43 @@ file_not_read words contents p f bytes p' f' pb' fb' are told past read =
     let same = same_bytes contents f f' bytes fb' files.1 told read.file_told in
     omega (arith, ap length same, read.file_within)
 
-file_is_past : (leads : Program → PlainSequent → PlainStep → List PlainSequent → Type 0) (words : List (List ℕ)) (contents : List ℕ → Option (List ℕ)) (p f bytes : List ℕ) (status : Status) (text : List ℕ) → replay_words words ≡ Some (p, f) → contents f ≡ Some bytes → file_limit < length bytes → IsAnswer leads words contents status text → status ≡ Limit
-file_is_past leads words contents p f bytes status text are told past (usage none) = absurd cc
-file_is_past leads words contents p f bytes status text are told past (long_proof p' f' bytes' are' told' past') = refl
-file_is_past leads words contents p f bytes status text are told past (long_file p' f' pb' bytes' are' proof_told' within told' past') = refl
-file_is_past leads words contents p f bytes status text are told past (no_program p' f' pb' fb' read none) =
+file_is_past : (leads : Program → PlainSequent → PlainStep → List PlainSequent → Type 0) (causes : Program → PlainSequent → PlainStep → ℕ → Type 0) (words : List (List ℕ)) (contents : List ℕ → Option (List ℕ)) (p f pb bytes : List ℕ) (status : Status) (text : List ℕ) → replay_words words ≡ Some (p, f) → contents p ≡ Some pb → length pb ≤ proof_limit → contents f ≡ Some bytes → file_limit < length bytes → IsAnswer leads causes words contents status text → (status ≡ Limit) × (text ≡ file_limit_text)
+file_is_past leads causes words contents p f pb bytes status text are proof_told fits told past (usage none) = absurd cc
+file_is_past leads causes words contents p f pb bytes status text are proof_told fits told past (long_proof p' f' bytes' are' told' past') =
+    let files = same_files words p f p' f' are are' in
+    let same = same_bytes contents p p' pb bytes' files.0 proof_told told' in
+    absurd (omega (arith, ap length same, past', fits))
+file_is_past leads causes words contents p f pb bytes status text are proof_told fits told past (long_file p' f' pb' bytes' are' proof_told' within told' past') = (refl, refl)
+file_is_past leads causes words contents p f pb bytes status text are proof_told fits told past (no_program p' f' pb' fb' read none) =
     absurd (file_not_read words contents p f bytes p' f' pb' fb' are told past read)
-file_is_past leads words contents p f bytes status text are told past (no_script p' f' pb' fb' q read reads none) =
+file_is_past leads causes words contents p f pb bytes status text are proof_told fits told past (no_script p' f' pb' fb' q read reads none) =
     absurd (file_not_read words contents p f bytes p' f' pb' fb' are told past read)
-file_is_past leads words contents p f bytes status text are told past (long_report p' f' pb' fb' q s status' text' read reads script_reads is long) = refl
-file_is_past leads words contents p f bytes status text are told past (replayed p' f' pb' fb' q s status' text' read reads script_reads is within) =
+file_is_past leads causes words contents p f pb bytes status text are proof_told fits told past (long_report p' f' pb' fb' q s status' text' read reads script_reads is long) =
+    absurd (file_not_read words contents p f bytes p' f' pb' fb' are told past read)
+file_is_past leads causes words contents p f pb bytes status text are proof_told fits told past (replayed p' f' pb' fb' q s status' text' read reads script_reads is within) =
     absurd (file_not_read words contents p f bytes p' f' pb' fb' are told past read)
 
 -- ---- one answer
 
-one_answer_read : (leads : Program → PlainSequent → PlainStep → List PlainSequent → Type 0) → ((q : Program) → OneWay (leads q)) → (words : List (List ℕ)) (contents : List ℕ → Option (List ℕ)) (p f pb fb : List ℕ) (status other : Status) (text another : List ℕ) → AreRead words contents p f pb fb → IsAnswer leads words contents status text → IsAnswer leads words contents other another → status ≡ other
-one_answer_read leads way words contents p f pb fb status other text another read answer again =
-    one_judgement leads way pb fb status other (judged_as leads words contents p f pb fb status text read answer) (judged_as leads words contents p f pb fb other another read again)
+both_back : {status other : Status} {text another : List ℕ} → (other ≡ status) × (another ≡ text) → (status ≡ other) × (text ≡ another)
+both_back same = (sym same.0, sym same.1)
 
-pub answer_unique : (leads : Program → PlainSequent → PlainStep → List PlainSequent → Type 0) → ((q : Program) → OneWay (leads q)) → (words : List (List ℕ)) (contents : List ℕ → Option (List ℕ)) (status other : Status) (text another : List ℕ) → IsAnswer leads words contents status text → IsAnswer leads words contents other another → status ≡ other
-answer_unique leads way words contents status other text another (usage none) again =
-    sym (no_command leads words contents other another none again)
-answer_unique leads way words contents status other text another (long_proof p f bytes are told past) again =
-    sym (proof_is_past leads words contents p f bytes other another are told past again)
-answer_unique leads way words contents status other text another (long_file p f pb bytes are proof_told within told past) again =
-    sym (file_is_past leads words contents p f bytes other another are told past again)
-answer_unique leads way words contents status other text another (no_program p f pb fb read none) again =
-    one_answer_read leads way words contents p f pb fb RefusedSource other _ another read (no_program p f pb fb read none) again
-answer_unique leads way words contents status other text another (no_script p f pb fb q read reads none) again =
-    one_answer_read leads way words contents p f pb fb RefusedScript other _ another read (no_script p f pb fb q read reads none) again
-answer_unique leads way words contents status other text another (long_report p f pb fb q s status' text' read reads script_reads is past) again =
-    one_answer_read leads way words contents p f pb fb Limit other _ another read (long_report p f pb fb q s status' text' read reads script_reads is past) again
-answer_unique leads way words contents status other text another (replayed p f pb fb q s status' text' read reads script_reads is within) again =
-    one_answer_read leads way words contents p f pb fb status' other text' another read (replayed p f pb fb q s status' text' read reads script_reads is within) again
+one_answer_read : (leads : Program → PlainSequent → PlainStep → List PlainSequent → Type 0) (causes : Program → PlainSequent → PlainStep → ℕ → Type 0) → ((q : Program) → OneWay (leads q)) → ((q : Program) → HasNoCause (leads q) (causes q)) → (words : List (List ℕ)) (contents : List ℕ → Option (List ℕ)) (p f pb fb : List ℕ) (status other : Status) (text another : List ℕ) → AreRead words contents p f pb fb → IsAnswer leads causes words contents status text → IsAnswer leads causes words contents other another → (status ≡ other) × (text ≡ another)
+one_answer_read leads causes way free words contents p f pb fb status other text another read answer again =
+    one_judgement leads causes way free p f pb fb status other text another (judged_as leads causes words contents p f pb fb status text read answer) (judged_as leads causes words contents p f pb fb other another read again)
+
+pub answer_unique : (leads : Program → PlainSequent → PlainStep → List PlainSequent → Type 0) (causes : Program → PlainSequent → PlainStep → ℕ → Type 0) → ((q : Program) → OneWay (leads q)) → ((q : Program) → HasNoCause (leads q) (causes q)) → (words : List (List ℕ)) (contents : List ℕ → Option (List ℕ)) (status other : Status) (text another : List ℕ) → IsAnswer leads causes words contents status text → IsAnswer leads causes words contents other another → (status ≡ other) × (text ≡ another)
+answer_unique leads causes way free words contents status other text another (usage none) again =
+    both_back (no_command leads causes words contents other another none again)
+answer_unique leads causes way free words contents status other text another (long_proof p f bytes are told past) again =
+    both_back (proof_is_past leads causes words contents p f bytes other another are told past again)
+answer_unique leads causes way free words contents status other text another (long_file p f pb bytes are proof_told within told past) again =
+    both_back (file_is_past leads causes words contents p f pb bytes other another are proof_told within told past again)
+answer_unique leads causes way free words contents status other text another (no_program p f pb fb read none) again =
+    one_answer_read leads causes way free words contents p f pb fb RefusedSource other _ another read (no_program p f pb fb read none) again
+answer_unique leads causes way free words contents status other text another (no_script p f pb fb q read reads none) again =
+    one_answer_read leads causes way free words contents p f pb fb RefusedScript other _ another read (no_script p f pb fb q read reads none) again
+answer_unique leads causes way free words contents status other text another (long_report p f pb fb q s status' text' read reads script_reads is past) again =
+    one_answer_read leads causes way free words contents p f pb fb Limit other _ another read (long_report p f pb fb q s status' text' read reads script_reads is past) again
+answer_unique leads causes way free words contents status other text another (replayed p f pb fb q s status' text' read reads script_reads is within) again =
+    one_answer_read leads causes way free words contents p f pb fb status' other text' another read (replayed p f pb fb q s status' text' read reads script_reads is within) again

@@ -15,19 +15,19 @@ use Rattle.jdl.specs.Reports.{IsReport, missing, closed, opened, broken, verdict
 use Rattle.jdl.specs.declared.status.Status.{Status}
 use Rattle.jdl.specs.declared.status.Status.TheVariants.{NotAccepted}
 
-pub report_of_verdict : (leads : PlainSequent → PlainStep → List PlainSequent → Type 0) (name : List ℕ) (goal : PlainSequent) (tree : ProofTree) (verdict : Verdict) → IsVerdict leads tree goal verdict → IsReport leads name goal (OneProof tree) (verdict_status verdict) (verdict_text name verdict)
-report_of_verdict leads name goal tree (Closed steps) is =
+pub report_of_verdict : (leads : PlainSequent → PlainStep → List PlainSequent → Type 0) (causes : PlainSequent → PlainStep → ℕ → Type 0) (name : List ℕ) (goal : PlainSequent) (tree : ProofTree) (verdict : Verdict) → IsVerdict leads causes tree goal verdict → IsReport leads causes name goal (OneProof tree) (verdict_status verdict) (verdict_text name verdict)
+report_of_verdict leads causes name goal tree (Closed steps) is =
     rw (← is.1) (closed tree refl is.0)
-report_of_verdict leads name goal tree (Open goals) is =
+report_of_verdict leads causes name goal tree (Open goals) is =
     rw (← length-map goals.items sequent_view) (opened tree (map sequent_view goals.items) refl is.0 (rw (length-map goals.items sequent_view) is.1))
-report_of_verdict leads name goal tree (Bad node cause) is = broken tree node cause refl is
+report_of_verdict leads causes name goal tree (Bad node cause) is = broken tree node cause refl is
 
 -- the report of a script without a proof
-pub report_without_proof : (leads : PlainSequent → PlainStep → List PlainSequent → Type 0) (goal : PlainSequent) (s : Script) (name called text : List ℕ) → s ≡ code.NoProof → called ≡ name → text ≡ missing_text called → IsReport leads name goal (script_view s) NotAccepted text
-report_without_proof leads goal s name called text none same is =
-    subst (λ t. IsReport leads name goal (script_view s) NotAccepted t) (sym (is ∙ ap missing_text same)) (missing (ap script_view none))
+pub report_without_proof : (leads : PlainSequent → PlainStep → List PlainSequent → Type 0) (causes : PlainSequent → PlainStep → ℕ → Type 0) (goal : PlainSequent) (s : Script) (name called text : List ℕ) → s ≡ code.NoProof → called ≡ name → text ≡ missing_text called → IsReport leads causes name goal (script_view s) NotAccepted text
+report_without_proof leads causes goal s name called text none same is =
+    subst (λ t. IsReport leads causes name goal (script_view s) NotAccepted t) (sym (is ∙ ap missing_text same)) (missing (ap script_view none))
 
 -- the report of a script with a proof
-pub report_of_proof : (leads : PlainSequent → PlainStep → List PlainSequent → Type 0) (goal : PlainSequent) (s : Script) (t : ScriptTree) (verdict : Verdict) (status : Status) (name called text : List ℕ) → s ≡ code.Proof t → called ≡ name → IsVerdict leads (tree_of (map node_view t.nodes.items)) goal verdict → status ≡ verdict_status verdict → text ≡ verdict_text called verdict → IsReport leads name goal (script_view s) status text
-report_of_proof leads goal s t verdict status name called text one same is status_is text_is =
-    rw (one, status_is, text_is, same) (report_of_verdict leads name goal (tree_of (map node_view t.nodes.items)) verdict is)
+pub report_of_proof : (leads : PlainSequent → PlainStep → List PlainSequent → Type 0) (causes : PlainSequent → PlainStep → ℕ → Type 0) (goal : PlainSequent) (s : Script) (t : ScriptTree) (verdict : Verdict) (status : Status) (name called text : List ℕ) → s ≡ code.Proof t → called ≡ name → IsVerdict leads causes (tree_of (map node_view t.nodes.items)) goal verdict → status ≡ verdict_status verdict → text ≡ verdict_text called verdict → IsReport leads causes name goal (script_view s) status text
+report_of_proof leads causes goal s t verdict status name called text one same is status_is text_is =
+    rw (one, status_is, text_is, same) (report_of_verdict leads causes name goal (tree_of (map node_view t.nodes.items)) verdict is)

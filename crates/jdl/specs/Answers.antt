@@ -5,6 +5,7 @@ use Rattle.jd_sequent.specs.Trees.{PlainStep}
 use Rattle.jd_sequent.specs.Obligations.{PlainTask}
 use Rattle.jd_sequent.specs.Rules.{LeadsWithinLimits}
 use Rattle.jd_first_steps.specs.Instances.{IsInstance}
+use Rattle.jd_first_rules.specs.Causes.{Cause}
 use Rattle.jd_first_java.specs.Programs.{Program}
 use Rattle.jd_first_java.specs.Reads as java
 use Rattle.jd_first_script.specs.Scripts as script
@@ -39,6 +40,14 @@ leads_of instance q = LeadsWithinLimits (instance (task_of q))
 abbrev pub first_leads : Program → PlainSequent → PlainStep → List PlainSequent → Type 0
 first_leads = leads_of (λ t s p ps. IsInstance s p ps)
 
+-- why a step of a program's obligation is refused, by the cause's number
+abbrev pub causes_of : (PlainTask → PlainSequent → PlainStep → ℕ → Type 0) → Program → PlainSequent → PlainStep → ℕ → Type 0
+causes_of cause q = cause (task_of q)
+
+-- the same for the twelve rules of the first replay
+abbrev pub first_causes : Program → PlainSequent → PlainStep → ℕ → Type 0
+first_causes = causes_of (λ t s p n. Cause s p n)
+
 -- the words name these two files, whose bytes are these, within the limits
 pub record AreRead (words : List (List ℕ)) (contents : List ℕ → Option (List ℕ)) (proof file proof_bytes file_bytes : List ℕ) : Type 0 where
   pub words_ : replay_words words ≡ Some (proof, file)
@@ -47,15 +56,16 @@ pub record AreRead (words : List (List ℕ)) (contents : List ℕ → Option (Li
   pub file_told : contents file ≡ Some file_bytes
   pub file_within : length file_bytes ≤ file_limit
 
--- the status and the text that are answered; a step of a program's obligation leads from a sequent to its premises
-pub data IsAnswer (leads : Program → PlainSequent → PlainStep → List PlainSequent → Type 0) (words : List (List ℕ)) (contents : List ℕ → Option (List ℕ)) : Status → List ℕ → Type 0 where
-  usage : replay_words words ≡ None → IsAnswer leads words contents Usage usage_text
-  long_proof : (proof file bytes : List ℕ) → replay_words words ≡ Some (proof, file) → contents proof ≡ Some bytes → proof_limit < length bytes → IsAnswer leads words contents Limit proof_limit_text
-  long_file : (proof file proof_bytes bytes : List ℕ) → replay_words words ≡ Some (proof, file) → contents proof ≡ Some proof_bytes → length proof_bytes ≤ proof_limit → contents file ≡ Some bytes → file_limit < length bytes → IsAnswer leads words contents Limit file_limit_text
-  no_program : (proof file proof_bytes file_bytes : List ℕ) → AreRead words contents proof file proof_bytes file_bytes → ((q : Program) → java.Reads file_bytes q → ⊥) → IsAnswer leads words contents RefusedSource (refused_text file)
-  no_script : (proof file proof_bytes file_bytes : List ℕ) (q : Program) → AreRead words contents proof file proof_bytes file_bytes → java.Reads file_bytes q → ((s : PlainScript) → script.Reads (obligation_name q) proof_bytes s → ⊥) → IsAnswer leads words contents RefusedScript (refused_text proof)
-  long_report : (proof file proof_bytes file_bytes : List ℕ) (q : Program) (s : PlainScript) (status : Status) (text : List ℕ) → AreRead words contents proof file proof_bytes file_bytes → java.Reads file_bytes q → script.Reads (obligation_name q) proof_bytes s → IsReport (leads q) (obligation_name q) (obligation_sequent q) s status text → report_limit < length text → IsAnswer leads words contents Limit report_limit_text
-  replayed : (proof file proof_bytes file_bytes : List ℕ) (q : Program) (s : PlainScript) (status : Status) (text : List ℕ) → AreRead words contents proof file proof_bytes file_bytes → java.Reads file_bytes q → script.Reads (obligation_name q) proof_bytes s → IsReport (leads q) (obligation_name q) (obligation_sequent q) s status text → length text ≤ report_limit → IsAnswer leads words contents status text
+-- the status and the text that are answered; a step of a program's obligation leads from a sequent to its premises, or has
+-- causes
+pub data IsAnswer (leads : Program → PlainSequent → PlainStep → List PlainSequent → Type 0) (causes : Program → PlainSequent → PlainStep → ℕ → Type 0) (words : List (List ℕ)) (contents : List ℕ → Option (List ℕ)) : Status → List ℕ → Type 0 where
+  usage : replay_words words ≡ None → IsAnswer leads causes words contents Usage usage_text
+  long_proof : (proof file bytes : List ℕ) → replay_words words ≡ Some (proof, file) → contents proof ≡ Some bytes → proof_limit < length bytes → IsAnswer leads causes words contents Limit proof_limit_text
+  long_file : (proof file proof_bytes bytes : List ℕ) → replay_words words ≡ Some (proof, file) → contents proof ≡ Some proof_bytes → length proof_bytes ≤ proof_limit → contents file ≡ Some bytes → file_limit < length bytes → IsAnswer leads causes words contents Limit file_limit_text
+  no_program : (proof file proof_bytes file_bytes : List ℕ) → AreRead words contents proof file proof_bytes file_bytes → ((q : Program) → java.Reads file_bytes q → ⊥) → IsAnswer leads causes words contents RefusedSource (refused_text file)
+  no_script : (proof file proof_bytes file_bytes : List ℕ) (q : Program) → AreRead words contents proof file proof_bytes file_bytes → java.Reads file_bytes q → ((s : PlainScript) → script.Reads (obligation_name q) proof_bytes s → ⊥) → IsAnswer leads causes words contents RefusedScript (refused_text proof)
+  long_report : (proof file proof_bytes file_bytes : List ℕ) (q : Program) (s : PlainScript) (status : Status) (text : List ℕ) → AreRead words contents proof file proof_bytes file_bytes → java.Reads file_bytes q → script.Reads (obligation_name q) proof_bytes s → IsReport (leads q) (causes q) (obligation_name q) (obligation_sequent q) s status text → report_limit < length text → IsAnswer leads causes words contents Limit report_limit_text
+  replayed : (proof file proof_bytes file_bytes : List ℕ) (q : Program) (s : PlainScript) (status : Status) (text : List ℕ) → AreRead words contents proof file proof_bytes file_bytes → java.Reads file_bytes q → script.Reads (obligation_name q) proof_bytes s → IsReport (leads q) (causes q) (obligation_name q) (obligation_sequent q) s status text → length text ≤ report_limit → IsAnswer leads causes words contents status text
 
 -- the library tells what is in the files that the words name, as far as they are read
 abbrev pub IsTold : List (List ℕ) → (List ℕ → Option (List ℕ)) → Type 0

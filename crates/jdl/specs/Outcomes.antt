@@ -18,16 +18,16 @@ use Rattle.jdl.specs.declared.status.Status.{Status}
 -- ---- what is written
 
 -- the answer of this status was written behind the bytes that were there
-pub record IsAnswered (leads : Program → PlainSequent → PlainStep → List PlainSequent → Type 0) (words : List (List ℕ)) (contents : List ℕ → Option (List ℕ)) (before after : Option (List ℕ)) (status : Status) : Type 0 where
+pub record IsAnswered (leads : Program → PlainSequent → PlainStep → List PlainSequent → Type 0) (causes : Program → PlainSequent → PlainStep → ℕ → Type 0) (words : List (List ℕ)) (contents : List ℕ → Option (List ℕ)) (before after : Option (List ℕ)) (status : Status) : Type 0 where
   pub text : List ℕ
-  pub answer : IsAnswer leads words contents status text
+  pub answer : IsAnswer leads causes words contents status text
   pub written : ForSome before (λ told. after ≡ Some (told ++ text))
 
 -- only a first part of the answer was written
-pub record IsCutShort (leads : Program → PlainSequent → PlainStep → List PlainSequent → Type 0) (words : List (List ℕ)) (contents : List ℕ → Option (List ℕ)) (before after : Option (List ℕ)) : Type 0 where
+pub record IsCutShort (leads : Program → PlainSequent → PlainStep → List PlainSequent → Type 0) (causes : Program → PlainSequent → PlainStep → ℕ → Type 0) (words : List (List ℕ)) (contents : List ℕ → Option (List ℕ)) (before after : Option (List ℕ)) : Type 0 where
   pub status : Status
   pub text : List ℕ
-  pub answer : IsAnswer leads words contents status text
+  pub answer : IsAnswer leads causes words contents status text
   pub written : ForSome before (λ told. (k : ℕ) × (k ≤ length text) × (after ≡ Some (told ++ take k text)))
 
 -- ---- faults of reading
@@ -93,7 +93,7 @@ pub record IsScriptRefused (words : List (List ℕ)) (contents : List ℕ → Op
   pub no_script : (s : PlainScript) → script.Reads (obligation_name program) proof_bytes s → ⊥
 
 -- the proof file, the Java file or the report is too long
-pub data IsPastLimit (leads : Program → PlainSequent → PlainStep → List PlainSequent → Type 0) (words : List (List ℕ)) (contents : List ℕ → Option (List ℕ)) : Type 0 where
-  long_proof : (proof file bytes : List ℕ) → replay_words words ≡ Some (proof, file) → contents proof ≡ Some bytes → proof_limit < length bytes → IsPastLimit leads words contents
-  long_file : (proof file bytes : List ℕ) → replay_words words ≡ Some (proof, file) → contents file ≡ Some bytes → file_limit < length bytes → IsPastLimit leads words contents
-  long_report : (program : Program) (plain : PlainScript) (status : Status) (text : List ℕ) → AreUnderstood words contents program plain → IsReport (leads program) (obligation_name program) (obligation_sequent program) plain status text → report_limit < length text → IsPastLimit leads words contents
+pub data IsPastLimit (leads : Program → PlainSequent → PlainStep → List PlainSequent → Type 0) (causes : Program → PlainSequent → PlainStep → ℕ → Type 0) (words : List (List ℕ)) (contents : List ℕ → Option (List ℕ)) : Type 0 where
+  long_proof : (proof file bytes : List ℕ) → replay_words words ≡ Some (proof, file) → contents proof ≡ Some bytes → proof_limit < length bytes → IsPastLimit leads causes words contents
+  long_file : (proof file bytes : List ℕ) → replay_words words ≡ Some (proof, file) → contents file ≡ Some bytes → file_limit < length bytes → IsPastLimit leads causes words contents
+  long_report : (program : Program) (plain : PlainScript) (status : Status) (text : List ℕ) → AreUnderstood words contents program plain → IsReport (leads program) (causes program) (obligation_name program) (obligation_sequent program) plain status text → report_limit < length text → IsPastLimit leads causes words contents

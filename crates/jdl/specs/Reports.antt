@@ -10,6 +10,7 @@ use Rattle.jd_replay.specs.declared.verdict.Verdict.{Verdict}
 use Rattle.jd_replay.specs.declared.verdict.Verdict.TheVariants.{Closed, Open, Bad as Broken}
 use Rattle.jd_replay.specs.declared.verdict.Cause.{Cause}
 use Rattle.jd_replay.specs.declared.verdict.Cause.TheVariants.{Rule, BranchCount}
+use Rattle.jd_replay.specs.FirstBad.{FirstBad}
 use Rattle.jd_first_script.specs.Scripts.{PlainScript, NoProof, OneProof}
 use Rattle.jdl.specs.declared.status.Status.{Status}
 use Rattle.jdl.specs.declared.status.Status.TheVariants.{Done, NotAccepted}
@@ -86,9 +87,10 @@ verdict_text name (Closed steps) = closed_text name steps
 verdict_text name (Open goals) = open_text name (length goals.items)
 verdict_text name (Broken node cause) = bad_text name node cause
 
--- the report of a script for an obligation of this name and sequent, where a step leads from a sequent to its premises
-pub data IsReport (leads : PlainSequent → PlainStep → List PlainSequent → Type 0) (name : List ℕ) (goal : PlainSequent) (script : PlainScript) : Status → List ℕ → Type 0 where
-  missing : script ≡ NoProof → IsReport leads name goal script NotAccepted (missing_text name)
-  closed : (tree : ProofTree) → script ≡ OneProof tree → Derives leads tree goal [] → IsReport leads name goal script Done (closed_text name (steps_in tree))
-  opened : (tree : ProofTree) (goals : List PlainSequent) → script ≡ OneProof tree → Derives leads tree goal goals → 0 < length goals → IsReport leads name goal script NotAccepted (open_text name (length goals))
-  broken : (tree : ProofTree) (node : ℕ) (cause : Cause) → script ≡ OneProof tree → ((goals : List PlainSequent) → Derives leads tree goal goals → ⊥) → IsReport leads name goal script NotAccepted (bad_text name node cause)
+-- the report of a script for an obligation of this name and sequent, where a step leads from a sequent to its premises or has
+-- causes by their numbers; of a proof that is bad it names the first bad step and its cause
+pub data IsReport (leads : PlainSequent → PlainStep → List PlainSequent → Type 0) (causes : PlainSequent → PlainStep → ℕ → Type 0) (name : List ℕ) (goal : PlainSequent) (script : PlainScript) : Status → List ℕ → Type 0 where
+  missing : script ≡ NoProof → IsReport leads causes name goal script NotAccepted (missing_text name)
+  closed : (tree : ProofTree) → script ≡ OneProof tree → Derives leads tree goal [] → IsReport leads causes name goal script Done (closed_text name (steps_in tree))
+  opened : (tree : ProofTree) (goals : List PlainSequent) → script ≡ OneProof tree → Derives leads tree goal goals → 0 < length goals → IsReport leads causes name goal script NotAccepted (open_text name (length goals))
+  broken : (tree : ProofTree) (node : ℕ) (cause : Cause) → script ≡ OneProof tree → FirstBad leads causes tree goal node cause → IsReport leads causes name goal script NotAccepted (bad_text name node cause)

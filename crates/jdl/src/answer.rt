@@ -10,7 +10,7 @@ ghost use Rattle.jd_first_script.specs.Scripts.{script_view};
 ghost use Rattle.jd_first_oblig.specs.Obligations.{obligation_name, obligation_sequent};
 ghost use Rattle.jdl.specs.Words.{word_texts, replay_words};
 ghost use Rattle.jdl.specs.Reports.{IsReport, report_limit_text};
-ghost use Rattle.jdl.specs.Answers.{AcceptsObligations, leads_of, report_limit, AreRead, IsAnswer, IsTold};
+ghost use Rattle.jdl.specs.Answers.{AcceptsObligations, leads_of, causes_of, report_limit, AreRead, IsAnswer, IsTold};
 ghost use Rattle.jdl.specs.Statuses.{IsJudged, IsWritten};
 ghost use Rattle.jdl.specs.Outcomes.{IsReadFault, HasMoreFaults};
 ghost use Rattle.jdl.specs.declared.status.Status.{Status};
@@ -73,7 +73,7 @@ fn verdict_of<R: RuleSet>(
     requires accepts { AcceptsObligations (R.accepts rules.now) }
     requires program { IsProgram (program_view program.now) }
     ensures { IfOk result
-        (λ verdict. IsVerdict (leads_of (R.instance rules.now) (program_view program.now)) (tree_of (map node_view tree.now.nodes.items)) (obligation_sequent (program_view program.now)) verdict) }
+        (λ verdict. IsVerdict (leads_of (R.instance rules.now) (program_view program.now)) (causes_of (R.cause rules.now) (program_view program.now)) (tree_of (map node_view tree.now.nodes.items)) (obligation_sequent (program_view program.now)) verdict) }
 {
     let contracts = contracts(alloc, program)?;
     let obligation = obligation(alloc, program)?;
@@ -91,7 +91,7 @@ fn replayed<R: RuleSet>(
     requires accepts { AcceptsObligations (R.accepts rules.now) }
     requires program { IsProgram (program_view program.now) }
     ensures report { IfOk result
-        (λ a. IsReport (leads_of (R.instance rules.now) (program_view program.now)) (obligation_name (program_view program.now)) (obligation_sequent (program_view program.now)) (script_view script.now) a.status a.text.items) }
+        (λ a. IsReport (leads_of (R.instance rules.now) (program_view program.now)) (causes_of (R.cause rules.now) (program_view program.now)) (obligation_name (program_view program.now)) (obligation_sequent (program_view program.now)) (script_view script.now) a.status a.text.items) }
     ensures status { IfOk result (λ a. IsJudged a.status) }
 {
     let name = name_of(alloc, program)?;
@@ -138,7 +138,7 @@ fn judged<R: RuleSet>(
     requires accepts { AcceptsObligations (R.accepts rules.now) }
     ensures answer { IfOk result (λ a. (words : List (List ℕ)) (contents : List ℕ → Option (List ℕ))
         → AreRead words contents files.now.proof.now files.now.file.now proof.now file.now
-        → IsAnswer (leads_of (R.instance rules.now)) words contents a.status a.text.items) }
+        → IsAnswer (leads_of (R.instance rules.now)) (causes_of (R.cause rules.now)) words contents a.status a.text.items) }
     ensures status { IfOk result (λ a. IsJudged a.status) }
 {
     let Some(program) = read_program(alloc, file)? else {
@@ -197,7 +197,7 @@ pub fn answer_to<R: RuleSet, L: Library>(
 ) -> Result<Answer, Stop>
     requires accepts { AcceptsObligations (R.accepts rules.now) }
     ensures answer { IfOk result (λ a. IsTold (word_texts words.now) (L.contents library.old)
-        → IsAnswer (leads_of (R.instance rules.now)) (word_texts words.now) (L.contents library.old) a.status a.text.items) }
+        → IsAnswer (leads_of (R.instance rules.now)) (causes_of (R.cause rules.now)) (word_texts words.now) (L.contents library.old) a.status a.text.items) }
 
     // Words that are no command are answered so, and no others.
     ensures usage { IfOk result (λ a. a.status ≡ Status.Usage → replay_words (word_texts words.now) ≡ None) }
@@ -230,10 +230,10 @@ pub fn answer_to<R: RuleSet, L: Library>(
     Ok(judged(alloc, rules, &files, &proof, &file)?)
 }
 
-/// Words and contents have answers of one status.
+/// Words and contents have one answer.
 pub fn one_answer<R: RuleSet>(_rules: &R)
     ensures { (words : List (List ℕ)) (contents : List ℕ → Option (List ℕ)) (status other : Status) (text another : List ℕ)
-        → IsAnswer (leads_of (R.instance _rules.now)) words contents status text
-        → IsAnswer (leads_of (R.instance _rules.now)) words contents other another
-        → status ≡ other }
+        → IsAnswer (leads_of (R.instance _rules.now)) (causes_of (R.cause _rules.now)) words contents status text
+        → IsAnswer (leads_of (R.instance _rules.now)) (causes_of (R.cause _rules.now)) words contents other another
+        → (status ≡ other) × (text ≡ another) }
 {}

@@ -2,7 +2,7 @@ ghost use Rattle.std.specs.Prelude.{◌≡◌, ◌≢◌, ◌<◌, ◌≤◌, �
 ghost use Rattle.std.specs.Option.{ForSome};
 ghost use Rattle.jd_base.specs.Faults.{Rose};
 ghost use Rattle.jdl.specs.Words.{word_texts, replay_words};
-ghost use Rattle.jdl.specs.Answers.{AcceptsObligations, leads_of, first_leads, IsTold};
+ghost use Rattle.jdl.specs.Answers.{AcceptsObligations, leads_of, causes_of, first_leads, first_causes, IsTold};
 ghost use Rattle.jdl.specs.Statuses.{IsWritten, MayEndUsage};
 ghost use Rattle.jdl.specs.KeptPrograms.{EachCaseIsKept};
 ghost use Rattle.jdl.specs.Outcomes.{IsAnswered, IsCutShort, IsReadFault, HasMoreFaults, IsAccepted, IsNotAccepted, IsSourceRefused, IsScriptRefused, IsPastLimit};
@@ -47,9 +47,9 @@ fn run_with<R: RuleSet, L: Library, S: Sink>(
 
     // What is written: the whole answer, a first part of it, or nothing.
     ensures answer { IsWritten result → IsTold (word_texts words.now) (L.contents library.old)
-        → IsAnswered (leads_of (R.instance rules.now)) (word_texts words.now) (L.contents library.old) (S.bytes sink.old) (S.bytes sink.new) result }
+        → IsAnswered (leads_of (R.instance rules.now)) (causes_of (R.cause rules.now)) (word_texts words.now) (L.contents library.old) (S.bytes sink.old) (S.bytes sink.new) result }
     ensures prefix { result ≡ Status.WriteFault → IsTold (word_texts words.now) (L.contents library.old)
-        → IsCutShort (leads_of (R.instance rules.now)) (word_texts words.now) (L.contents library.old) (S.bytes sink.old) (S.bytes sink.new) }
+        → IsCutShort (leads_of (R.instance rules.now)) (causes_of (R.cause rules.now)) (word_texts words.now) (L.contents library.old) (S.bytes sink.old) (S.bytes sink.new) }
     ensures unwritten { (result ≡ Status.ReadFault) ⊎ (result ≡ Status.NoMemory)
         → S.bytes sink.new ≡ S.bytes sink.old }
 
@@ -75,7 +75,7 @@ fn run_with<R: RuleSet, L: Library, S: Sink>(
     ensures refused_script { result ≡ Status.RefusedScript → IsTold (word_texts words.now) (L.contents library.old)
         → IsScriptRefused (word_texts words.now) (L.contents library.old) }
     ensures limit { result ≡ Status.Limit → IsTold (word_texts words.now) (L.contents library.old)
-        → IsPastLimit (leads_of (R.instance rules.now)) (word_texts words.now) (L.contents library.old) }
+        → IsPastLimit (leads_of (R.instance rules.now)) (causes_of (R.cause rules.now)) (word_texts words.now) (L.contents library.old) }
 {
     match answer_to(alloc, rules, words, library) {
         Ok(answer) => write_answer(sink, &answer),
@@ -100,9 +100,9 @@ pub fn run<L: Library, S: Sink>(
 
     // What is written: the whole answer, a first part of it, or nothing.
     ensures answer { IsWritten result → IsTold (word_texts words.now) (L.contents library.old)
-        → IsAnswered first_leads (word_texts words.now) (L.contents library.old) (S.bytes sink.old) (S.bytes sink.new) result }
+        → IsAnswered first_leads first_causes (word_texts words.now) (L.contents library.old) (S.bytes sink.old) (S.bytes sink.new) result }
     ensures prefix { result ≡ Status.WriteFault → IsTold (word_texts words.now) (L.contents library.old)
-        → IsCutShort first_leads (word_texts words.now) (L.contents library.old) (S.bytes sink.old) (S.bytes sink.new) }
+        → IsCutShort first_leads first_causes (word_texts words.now) (L.contents library.old) (S.bytes sink.old) (S.bytes sink.new) }
     ensures unwritten { (result ≡ Status.ReadFault) ⊎ (result ≡ Status.NoMemory)
         → S.bytes sink.new ≡ S.bytes sink.old }
 
@@ -128,7 +128,7 @@ pub fn run<L: Library, S: Sink>(
     ensures refused_script { result ≡ Status.RefusedScript → IsTold (word_texts words.now) (L.contents library.old)
         → IsScriptRefused (word_texts words.now) (L.contents library.old) }
     ensures limit { result ≡ Status.Limit → IsTold (word_texts words.now) (L.contents library.old)
-        → IsPastLimit first_leads (word_texts words.now) (L.contents library.old) }
+        → IsPastLimit first_leads first_causes (word_texts words.now) (L.contents library.old) }
 {
     run_with(alloc, &FirstRules, words, library, sink)
 }
