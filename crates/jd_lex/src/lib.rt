@@ -1,10 +1,15 @@
 //! The tokens of Java and JML.
 #![tactic(auto)]
 
+mod java;
+mod jml;
+mod laws;
 mod parts;
 mod runs;
 mod signs;
 mod starts;
 mod token;
 
+pub use java::tokens;
+pub use laws::one_answer;
 pub use token::{LexRefusal, Token, TokenKind};

@@ -42,7 +42,7 @@ fn push(
     Ok(())
 }
 
-fn word_part(
+pub fn word_part(
     alloc: Global,
     out: &mut Vec<Token>,
     jml: bool,
@@ -66,7 +66,7 @@ fn limit_of(jml: bool) -> u128
     if jml { JML_LIMIT } else { JAVA_LIMIT }
 }
 
-fn number_part(
+pub fn number_part(
     out: &mut Vec<Token>,
     jml: bool,
     bytes: &[u8],
@@ -88,7 +88,7 @@ fn number_part(
     }
 }
 
-fn sign_part(
+pub fn sign_part(
     alloc: Global,
     out: &mut Vec<Token>,
     jml: bool,
