@@ -13,3 +13,6 @@ mod token;
 pub use java::tokens;
 pub use laws::one_answer;
 pub use token::{LexRefusal, Token, TokenKind};
+
+#[cfg(test)]
+mod tests;
