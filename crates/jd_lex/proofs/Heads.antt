@@ -92,7 +92,7 @@ numeral_head (b ∷ bytes) m lt e h = rw one-add (record {
 pub digit_range : (c : ℕ) → is_digit c ≡ true → (48 ≤ c) × (c ≤ 57)
 digit_range c h = grind (arith, nat_tests, h)
 
-digit_is : (c : ℕ) → is_digit c ≡ true → digit_value c + 48 ≡ c
+pub digit_is : (c : ℕ) → is_digit c ≡ true → digit_value c + 48 ≡ c
 digit_is c h = let r = digit_range c h in digit_value_digit c r
 
 pub value_more : (digits : List ℕ) (i v d : ℕ) → AllOf is_digit digits → i < length digits → v ≡ digits_value 10 (take i digits) → d ≡ get_or digits i 0 - 48

@@ -5,3 +5,6 @@ pub mod Same
 pub mod Steps
 pub mod Once
 pub mod First
+pub mod Decimals
+pub mod Slices
+pub mod Marks

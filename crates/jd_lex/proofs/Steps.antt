@@ -31,6 +31,14 @@ chosen_white false false false true t e = absurd cc
 chosen_white false false false false true e = absurd cc
 chosen_white false false false false false e = absurd cc
 
+chosen_number : (w x d s t : Bool) → chosen w x d s t ≡ NumberStart → d ≡ true
+chosen_number true x d s t e = absurd cc
+chosen_number false true d s t e = absurd cc
+chosen_number false false true s t e = refl
+chosen_number false false false true t e = absurd cc
+chosen_number false false false false true e = absurd cc
+chosen_number false false false false false e = absurd cc
+
 chosen_line : (w x d s t : Bool) → chosen w x d s t ≡ LineComment → s ≡ true
 chosen_line true x d s t e = absurd cc
 chosen_line false true d s t e = absurd cc
@@ -75,6 +83,12 @@ begins_white jml bytes e =
     let b = get_or bytes 0 0 in
     let c = get_or bytes 1 0 in
     chosen_white (is_white b) (word_test jml b c) (Rattle.jd_lex.specs.Bytes.is_digit b) ((b == 47) && (c == 47)) ((b == 47) && (c == 42)) e
+
+pub begins_number : (jml : Bool) (bytes : List ℕ) → start_of jml bytes ≡ NumberStart → Rattle.jd_lex.specs.Bytes.is_digit (get_or bytes 0 0) ≡ true
+begins_number jml bytes e =
+    let b = get_or bytes 0 0 in
+    let c = get_or bytes 1 0 in
+    chosen_number (is_white b) (word_test jml b c) (Rattle.jd_lex.specs.Bytes.is_digit b) ((b == 47) && (c == 47)) ((b == 47) && (c == 42)) e
 
 -- ---- refusals
 

@@ -11,7 +11,7 @@ mod starts;
 mod token;
 
 pub use java::tokens;
-pub use laws::one_answer;
+pub use laws::{one_answer, tokens_are_slices};
 pub use token::{LexRefusal, Token, TokenKind};
 
 #[cfg(test)]

@@ -99,6 +99,7 @@ fn java_texts(rt: HostRuntime) -> Result<(), Fail> {
         assert_eq!(rt; shown(rt.alloc(), text)?.as_str(), want);
     }
     one_answer();
+    tokens_are_slices();
     Ok(())
 }
 
