@@ -1,5 +1,5 @@
 -- A numeral is the decimal of the number that it writes.
-use Rattle.std.proofs.Common.{◌≡◌, ℕ, zero, suc, ◌+◌, ◌*◌, ◌/◌, ◌%◌, ◌^◌, ◌<◌, ◌≤◌, Bool, true, false, ◌==◌, List, [], ◌∷◌, ◌++◌, length, take, get_or, decimal, refl, sym, ap, subst, ◌∙◌, append_assoc, arith}
+use Rattle.std.proofs.Common.{◌≡◌, ℕ, ◌+◌, ◌*◌, ◌/◌, ◌%◌, ◌^◌, ◌<◌, ◌≤◌, Bool, true, false, ◌==◌, List, [], ◌∷◌, ◌++◌, length, get_or, decimal, refl, sym, ap, subst, ◌∙◌, append_assoc, arith}
 use Rattle.std.proofs.lemmas.Bool.Decides.{nat_tests}
 use Rattle.std.proofs.lemmas.List.{append-nil}
 use Rattle.std.proofs.Math.Seq.{take-append_seam}
@@ -67,4 +67,4 @@ pub numeral_decimal : (text rest : List ℕ) → IsNumeral text rest → is_digi
 numeral_decimal text rest h digit small =
     let is = h.joined in
     subst (λ t. decimal (digits_value 10 t) ≡ t) (sym is)
-      (digits_decimal (h.first == 48) h.first h.more rest refl (subst (λ t. is_digit (get_or t 0 0) ≡ true) is digit) h.run (subst (λ t. digits_value 10 t < 10 ^ 64) is small))
+    (digits_decimal (h.first == 48) h.first h.more rest refl (subst (λ t. is_digit (get_or t 0 0) ≡ true) is digit) h.run (subst (λ t. digits_value 10 t < 10 ^ 64) is small))

@@ -1,5 +1,5 @@
 -- Which fault is the first, where an escape may stand before another.
-use Rattle.std.proofs.Common.{◌≡◌, ◌⊎◌, inl, inr, ℕ, ◌<◌, ◌≤◌, Bool, true, false, cond, nat_le, List, refl, sym, ap, subst, ◌∙◌, le_of_eq, arith}
+use Rattle.std.proofs.Common.{◌≡◌, inl, inr, ℕ, ◌<◌, ◌≤◌, Bool, true, false, cond, nat_le, List, refl, sym, ap, subst, le_of_eq, arith}
 use Rattle.std.proofs.lemmas.Bool.{cases_lt}
 use Rattle.std.proofs.lemmas.Bool.Decides.{nat_tests}
 use Rattle.jd_lex.specs.Parts.{Token, Fault, BadByte, OpenComment, BigLiteral, place}
@@ -16,7 +16,7 @@ abbrev NoneBefore : List ℕ → ℕ → Type 0
 NoneBefore bytes at = (k : ℕ) → k < at → IsEscape bytes k → ⊥
 
 not_before : (bytes : List ℕ) (at k : ℕ) → NoneBefore bytes at → IsEscape bytes k → at ≤ k
-not_before bytes at k none e = elim (cases_lt k at) [ | inl lt ↦ absurd (none k lt e) | inr le ↦ le ]
+not_before bytes at k none e = elim (cases_lt k at) [ inl lt ↦ absurd (none k lt e) | inr le ↦ le ]
 
 escape_place : (bytes : List ℕ) (at : ℕ) (f : Fault) → NoneBefore bytes at → (k : ℕ) → IsEscape bytes k → f ≡ BadByte k → at ≤ place f
 escape_place bytes at f none k e is = subst (λ n. at ≤ n) (sym (ap place is)) (not_before bytes at k none e)

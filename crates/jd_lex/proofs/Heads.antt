@@ -1,8 +1,8 @@
 -- Runs of bytes, white space, words, numerals, closing `*/` and last `@` signs, by the bytes at each index.
-use Rattle.std.proofs.Common.{◌≡◌, ◌≢◌, ◌⊎◌, inl, inr, ℕ, zero, suc, ◌+◌, ◌-◌, ◌*◌, ◌/◌, ◌<◌, ◌≤◌, Bool, true, false, cond, not, ◌&&◌, ◌||◌, ◌==◌, List, [], ◌∷◌, ◌++◌, length, take, drop, get_or, get_or-take, refl, sym, ap, subst, ◌∙◌, append_assoc, arith, add-one, one-add, true≢false}
+use Rattle.std.proofs.Common.{◌≡◌, inl, inr, ℕ, zero, suc, ◌+◌, ◌-◌, ◌*◌, ◌/◌, ◌<◌, ◌≤◌, Bool, true, false, cond, ◌&&◌, ◌==◌, List, [], ◌∷◌, ◌++◌, length, take, drop, get_or, get_or-take, refl, sym, ap, subst, ◌∙◌, arith, add-one, one-add}
 use Rattle.std.proofs.lemmas.Bool.{cases_lt}
-use Rattle.std.proofs.lemmas.List.{append-nil, take-append-drop, length-take, length-drop, drop-drop, take_more, get_or-append-add}
-use Rattle.std.proofs.Math.Seq.{drop-cons, take-add, take_all, get_or-append_seam}
+use Rattle.std.proofs.lemmas.List.{take-append-drop, length-take, length-drop, drop-drop, take_more, get_or-append-add}
+use Rattle.std.proofs.Math.Seq.{drop-cons, take-add, get_or-append_seam}
 use Rattle.std.proofs.Math.ListN.{drop_of_length-le, get_or-append}
 use Rattle.std.specs.List.{list_any, list_all}
 use Rattle.std.specs.Str.Parse.{digits_value}
@@ -28,9 +28,9 @@ all_of_at test (b ∷ bytes) h (suc k) lt = all_of_at test bytes h.1 k (omega ar
 
 ends_at : (test : ℕ → Bool) (bytes : List ℕ) (n : ℕ) → (n < length bytes → test (get_or bytes n 0) ≡ false) → BeginsOther test (drop n bytes)
 ends_at test bytes n h = elim (cases_lt n (length bytes)) [
-    | inl lt ↦ subst (λ t. BeginsOther test t) (sym (drop-cons bytes n 0 lt)) (h lt)
-    | inr le ↦ subst (λ t. BeginsOther test t) (sym (drop_of_length-le bytes le)) tt
-  ]
+  | inl lt ↦ subst (λ t. BeginsOther test t) (sym (drop-cons bytes n 0 lt)) (h lt)
+  | inr le ↦ subst (λ t. BeginsOther test t) (sym (drop_of_length-le bytes le)) tt
+]
 
 pub run_head : (test : ℕ → Bool) (bytes : List ℕ) (n : ℕ) → n ≤ length bytes → ((k : ℕ) → k < n → test (get_or bytes k 0) ≡ true)
     → (n < length bytes → test (get_or bytes n 0) ≡ false) → Head (IsRun test) bytes n
@@ -155,10 +155,10 @@ first_close bytes n lt h = no_close (take n bytes ++ 42 ∷ []) (λ k low c. one
         elim (cases_lt (k + 1) n) [
           | inl lt' ↦ h k below (sym (read k below) ∙ c.0, sym (read (k + 1) lt') ∙ c.1)
           | inr le ↦
-            let same : k + 1 ≡ n = omega (arith, below, le) in
-            let is : 42 ≡ 47 = sym last ∙ (ap (λ m. get_or (take n bytes ++ 42 ∷ []) m 0) (sym same) ∙ c.1) in
-            let no : ⊥ = omega (arith, is) in
-            no
+              let same : k + 1 ≡ n = omega (arith, below, le) in
+              let is : 42 ≡ 47 = sym last ∙ (ap (λ m. get_or (take n bytes ++ 42 ∷ []) m 0) (sym same) ∙ c.1) in
+              let no : ⊥ = omega (arith, is) in
+              no
         ]
 
 two_at : (bytes : List ℕ) (n : ℕ) → n + 1 < length bytes → Closes bytes n → drop n bytes ≡ 42 ∷ 47 ∷ drop (n + 2) bytes

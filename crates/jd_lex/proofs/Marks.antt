@@ -1,5 +1,5 @@
 -- The byte at a fault's place, and that a text has one first fault.
-use Rattle.std.proofs.Common.{◌≡◌, ◌⊎◌, inl, inr, ℕ, ◌+◌, ◌<◌, ◌≤◌, Bool, true, false, cond, true≢false, List, [], ◌∷◌, ◌++◌, length, get_or, Option, Some, None, refl, sym, ap, subst, ◌∙◌, length-append, le_antisymm, arith}
+use Rattle.std.proofs.Common.{◌≡◌, inl, inr, ℕ, ◌+◌, ◌<◌, Bool, true, false, cond, List, [], ◌∷◌, ◌++◌, length, get_or, Some, None, refl, sym, ap, subst, ◌∙◌, length-append, le_antisymm, arith}
 use Rattle.std.proofs.lemmas.List.{get_or-append-add}
 use Rattle.std.proofs.Math.ListN.{get_or-append}
 use Rattle.jd_lex.specs.Bytes.{is_at, is_digit}
@@ -93,13 +93,13 @@ java_by NumberStart at b bytes f is h = plain_marked NumberStart false at b byte
 java_by SignStart at b bytes f is h = plain_marked SignStart false at b bytes f is h
 java_by LineComment at b bytes f is h =
     subst (λ s. Marked at s f) (sym h.joined)
-      (marked_more h.text h.rest at f (subst (λ s. Marked at s f) (sym h.comment.joined) (marked_behind (47 ∷ 47 ∷ []) h.body at f (comment_marked false at h.body f h.inside))))
+    (marked_more h.text h.rest at f (subst (λ s. Marked at s f) (sym h.comment.joined) (marked_behind (47 ∷ 47 ∷ []) h.body at f (comment_marked false at h.body f h.inside))))
 java_by BlockComment at b bytes f is (inl h) =
     at_head b bytes at f (OpenComment at) h.1 refl (ap (λ t. get_or t 0 0) h.0.opening)
 java_by BlockComment at b bytes f is (inr h) =
     subst (λ s. Marked at s f) (sym h.joined)
-      (marked_more h.text h.rest at f (subst (λ s. Marked at s f) (sym h.comment.joined)
-        (marked_behind (47 ∷ 42 ∷ []) (h.body ++ 42 ∷ 47 ∷ []) at f (marked_more h.body (42 ∷ 47 ∷ []) (at + 2) f (comment_marked true at h.body f h.inside)))))
+    (marked_more h.text h.rest at f (subst (λ s. Marked at s f) (sym h.comment.joined)
+    (marked_behind (47 ∷ 42 ∷ []) (h.body ++ 42 ∷ 47 ∷ []) at f (marked_more h.body (42 ∷ 47 ∷ []) (at + 2) f (comment_marked true at h.body f h.inside)))))
 
 java_marked : (at : ℕ) (rest : List ℕ) (f : Fault) → IsJavaFault at rest f → Marked at rest f
 java_marked at [] f h = absurd h

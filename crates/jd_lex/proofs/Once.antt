@@ -1,8 +1,8 @@
 -- A text has one list of tokens, or one first fault.
-use Rattle.std.proofs.Common.{◌≡◌, ◌⊎◌, inl, inr, ℕ, ◌+◌, Bool, true, false, List, [], ◌∷◌, ◌++◌, length, Option, Some, None, refl, sym, ap, subst, ◌∙◌}
-use Rattle.jd_lex.specs.Parts.{Token, Part, Fault, start_of, IsLineComment, IsBlockComment, IsOpen, jml_text, IsPlain, IsPlainFault}
-use Rattle.jd_lex.specs.Lexing.{Parts, Faults, Whole, Stops, JmlPart, IsJmlPart, IsJmlFault, CommentGives, CommentFault, JavaPart, IsJavaPart, JavaFault, IsJavaFault}
-use Rattle.jd_lex.proofs.Rows.{OnePart, OneFault, Stuck, not_nil, one_whole, one_stop, not_both}
+use Rattle.std.proofs.Common.{◌≡◌, inl, inr, ℕ, ◌+◌, true, false, List, [], ◌∷◌, ◌++◌, Option, Some, None, sym, subst, ◌∙◌}
+use Rattle.jd_lex.specs.Parts.{Token, Part, Fault, start_of, IsOpen, jml_text, IsPlainFault}
+use Rattle.jd_lex.specs.Lexing.{JmlPart, IsJmlPart, IsJmlFault, CommentGives, CommentFault, JavaPart, IsJavaPart, JavaFault, IsJavaFault}
+use Rattle.jd_lex.proofs.Rows.{OnePart, OneFault, Stuck, one_whole, one_stop, not_both}
 use Rattle.jd_lex.proofs.Same.{same_plain, same_line, same_block, open_not_block, plain_or_fault, one_plain_fault}
 use Rattle.jd_lex.specs.declared.starts.Start.{Start}
 use Rattle.jd_lex.specs.declared.starts.Start.TheVariants.{White, WordStart, NumberStart, LineComment, BlockComment, SignStart}

@@ -1,5 +1,5 @@
 -- Parts in a row: how they grow along a text, and that a text has one row of them.
-use Rattle.std.proofs.Common.{◌≡◌, ◌≢◌, ℕ, ◌+◌, ◌<◌, ◌≤◌, List, [], ◌∷◌, ◌++◌, map, length, take, drop, flat_map, refl, sym, ap, subst, ◌∙◌, append_assoc, arith}
+use Rattle.std.proofs.Common.{◌≡◌, ℕ, ◌+◌, ◌<◌, List, [], ◌∷◌, ◌++◌, length, take, drop, refl, sym, ap, subst, ◌∙◌, append_assoc, arith}
 use Rattle.std.proofs.lemmas.List.{append-nil, take-append-drop, length-take, length-drop, append_cancel_left}
 use Rattle.jd_lex.specs.Parts as plain
 use Rattle.jd_lex.specs.Parts.{Part, Fault}
@@ -108,7 +108,7 @@ module _ (R : Parts) (one : OnePart R) where
       let e = one from p q behind behind' some some' part part' joined in
       let left : behind ≡ behind' = append_cancel_left q.text behind behind' (ap (λ u. u ++ behind) (sym e.0) ∙ joined) in
       let other : Reach R qs (from + length p.text) behind at' rest' =
-          subst (λ n. Reach R qs n behind at' rest') (ap (λ u. from + length u) (sym e.0)) (subst (λ u. Reach R qs (from + length q.text) u at' rest') (sym left) more') in
+      subst (λ n. Reach R qs n behind at' rest') (ap (λ u. from + length u) (sym e.0)) (subst (λ u. Reach R qs (from + length q.text) u at' rest') (sym left) more') in
       let m = one_end ps qs (from + length p.text) behind at rest at' rest' more other s t in
       let first : p ≡ q = ap (λ u. make u p.tokens) e.0 ∙ ap (make q.text) e.1 in
       record { parts = ap (λ u. u ∷ ps) first ∙ ap (λ us. q ∷ us) m.parts; place = m.place; left = m.left }

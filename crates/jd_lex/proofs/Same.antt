@@ -1,11 +1,10 @@
 -- At the head of a text stands one part, or a fault.
-use Rattle.std.proofs.Common.{◌≡◌, ◌≢◌, ◌⊎◌, inl, inr, ℕ, ◌+◌, ◌<◌, ◌≤◌, Bool, true, false, ◌&&◌, ◌==◌, true≢false, List, [], ◌∷◌, ◌++◌, length, refl, sym, ap, subst, pos, ◌∙◌, append_assoc, arith}
+use Rattle.std.proofs.Common.{◌≡◌, ℕ, ◌<◌, Bool, true, false, ◌&&◌, ◌==◌, true≢false, List, [], ◌∷◌, ◌++◌, length, refl, sym, ap, subst, pos, ◌∙◌, append_assoc, arith}
 use Rattle.std.specs.List.{list_any}
 use Rattle.std.specs.Str.Parse.{digits_value}
-use Rattle.std.proofs.lemmas.List.{append_cancel_left}
-use Rattle.jd_lex.specs.Signs.{signs, Listed, BeginsWith, IsLongest, BeginsNone}
+use Rattle.jd_lex.specs.Signs.{signs, IsLongest}
 use Rattle.jd_lex.specs.Bytes.{is_white, ends_line, is_digit, is_word_byte, is_at, in_line, AllOf, BeginsOther, IsRun}
-use Rattle.jd_lex.specs.Parts.{Kind, Word, Number, Sign, Token, Part, Fault, start_of, Ignored, IsWhite, IsWord, MoreDigits, IsNumeral, limit, IsLineComment, IsBlockComment, IsOpen, NoClose, one, IsPlain, IsBig, IsPlainFault}
+use Rattle.jd_lex.specs.Parts.{Kind, Word, Number, Sign, Part, Fault, Ignored, IsWhite, IsWord, MoreDigits, IsNumeral, limit, IsLineComment, IsBlockComment, IsOpen, NoClose, one, IsPlain, IsPlainFault}
 use Rattle.jd_lex.specs.declared.starts.Start.{Start}
 use Rattle.jd_lex.specs.declared.starts.Start.TheVariants.{White, WordStart, NumberStart, LineComment, BlockComment, SignStart}
 

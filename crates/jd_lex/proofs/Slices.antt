@@ -1,5 +1,5 @@
 -- The tokens that a text spells are slices of it, in order.
-use Rattle.std.proofs.Common.{◌≡◌, ◌⊎◌, inl, inr, ℕ, ◌+◌, ◌-◌, ◌*◌, ◌^◌, ◌<◌, ◌≤◌, Bool, true, false, cond, List, [], ◌∷◌, ◌++◌, length, take, drop, get_or, slice_range, Option, Some, None, pos, refl, sym, ap, subst, ◌∙◌, append_assoc, length-append, arith}
+use Rattle.std.proofs.Common.{◌≡◌, inl, inr, ℕ, ◌+◌, ◌-◌, ◌^◌, ◌<◌, Bool, true, false, cond, List, [], ◌∷◌, ◌++◌, length, take, drop, get_or, slice_range, Some, None, pos, refl, sym, ap, subst, ◌∙◌, append_assoc, length-append, arith}
 use Rattle.std.proofs.lemmas.List.{append-nil}
 use Rattle.std.proofs.Math.Seq.{drop-append_seam, take-append_seam}
 use Rattle.std.specs.List.{list_all}
@@ -7,7 +7,7 @@ use Rattle.std.specs.Str.Parse.{digits_value}
 use Rattle.jd_lex.specs.Bytes.{is_at, is_digit}
 use Rattle.jd_lex.specs.Parts.{Kind, Word, Number, Sign, Token, Part, start_of, limit, jml_text, without_last_ats, one, IsPlain}
 use Rattle.jd_lex.specs.Lexing.{Parts, Reach, tokens_of, Whole, JmlPart, IsJmlPart, CommentGives, JavaPart, IsJavaPart}
-use Rattle.jd_lex.specs.Places.{Says, IsSlice, AreSlices, InOrder}
+use Rattle.jd_lex.specs.Places.{Says, AreSlices, InOrder}
 use Rattle.jd_lex.proofs.Steps.{begins_number}
 use Rattle.jd_lex.proofs.Decimals.{numeral_decimal}
 use Rattle.jd_lex.specs.declared.starts.Start.{Start}
@@ -23,9 +23,17 @@ Placed at text (t ∷ ts) =
 
 placed_more : (text more : List ℕ) (at : ℕ) (ts : List Token) → Placed at text ts → Placed at (text ++ more) ts
 placed_more text more at [] h = tt
-placed_more text more at (t ∷ ts) (gap, word, rest, is, b, e, some, says, others) =
-    (gap, word, rest ++ more, ap (λ s. s ++ more) is ∙ (append_assoc gap (word ++ rest) more ∙ ap (λ s. gap ++ s) (append_assoc word rest more)), b, e, some, says,
-    placed_more rest more t.ends ts others)
+placed_more text more at (t ∷ ts) (gap, word, rest, is, b, e, some, says, others) = (
+  gap,
+  word,
+  rest ++ more,
+  ap (λ s. s ++ more) is ∙ (append_assoc gap (word ++ rest) more ∙ ap (λ s. gap ++ s) (append_assoc word rest more)),
+  b,
+  e,
+  some,
+  says,
+  placed_more rest more t.ends ts others,
+)
 
 placed_behind : (front text : List ℕ) (at : ℕ) (ts : List Token) → Placed (at + length front) text ts → Placed at (front ++ text) ts
 placed_behind front text at [] h = tt
@@ -39,16 +47,24 @@ placed_append (t ∷ xs) ys text more at (gap, word, rest, is, b, e, some, says,
     let l = ap length is in
     let m = length-append gap (word ++ rest) in
     let n = length-append word rest in
-    let same : at + length text ≡ t.ends + length rest = omega (arith, l, m, n, b, e) in
-    (gap, word, rest ++ more, ap (λ s. s ++ more) is ∙ (append_assoc gap (word ++ rest) more ∙ ap (λ s. gap ++ s) (append_assoc word rest more)), b, e, some, says,
-    placed_append xs ys rest more t.ends others (subst (λ i. Placed i more ys) same k))
+    let same : at + length text ≡ t.ends + length rest = omega (arith, l, m, n, b, e) in (
+      gap,
+      word,
+      rest ++ more,
+      ap (λ s. s ++ more) is ∙ (append_assoc gap (word ++ rest) more ∙ ap (λ s. gap ++ s) (append_assoc word rest more)),
+      b,
+      e,
+      some,
+      says,
+      placed_append xs ys rest more t.ends others (subst (λ i. Placed i more ys) same k),
+    )
 
 reach_placed : (R : Parts) → ((at : ℕ) (p : Part) (behind : List ℕ) → 0 < length p.text → R at p behind → Placed at p.text p.tokens)
     → (ps : List Part) (from : ℕ) (bytes : List ℕ) (at : ℕ) → Reach R ps from bytes at [] → Placed from bytes (tokens_of ps)
 reach_placed R given [] from bytes at h = tt
 reach_placed R given (p ∷ ps) from bytes at (some, behind, is, part, more) =
     subst (λ s. Placed from s (p.tokens ++ tokens_of ps)) (sym is)
-      (placed_append p.tokens (tokens_of ps) p.text behind from (given from p behind some part) (reach_placed R given ps (from + length p.text) behind at more))
+    (placed_append p.tokens (tokens_of ps) p.text behind from (given from p behind some part) (reach_placed R given ps (from + length p.text) behind at more))
 
 whole_placed : (R : Parts) → ((at : ℕ) (p : Part) (behind : List ℕ) → 0 < length p.text → R at p behind → Placed at p.text p.tokens)
     → (from : ℕ) (bytes : List ℕ) (ts : List Token) → Whole R from bytes ts → Placed from bytes ts
@@ -132,7 +148,7 @@ java_by LineComment at p behind is some (c, h, t) =
     subst (λ s. Placed at s p.tokens) (sym h.joined) (placed_behind (47 ∷ 47 ∷ []) c at p.tokens (comment_placed false at c p.tokens t))
 java_by BlockComment at p behind is some (c, h, t) =
     subst (λ s. Placed at s p.tokens) (sym h.joined)
-      (placed_behind (47 ∷ 42 ∷ []) (c ++ 42 ∷ 47 ∷ []) at p.tokens (placed_more c (42 ∷ 47 ∷ []) (at + 2) p.tokens (comment_placed true at c p.tokens t)))
+    (placed_behind (47 ∷ 42 ∷ []) (c ++ 42 ∷ 47 ∷ []) at p.tokens (placed_more c (42 ∷ 47 ∷ []) (at + 2) p.tokens (comment_placed true at c p.tokens t)))
 
 pub java_placed : (bytes : List ℕ) (ts : List Token) → Whole IsJavaPart 0 bytes ts → Placed 0 bytes ts
 java_placed bytes ts w = whole_placed IsJavaPart (λ at p behind some h. java_by (start_of false (p.text ++ behind)) at p behind refl some h) 0 bytes ts w
@@ -157,9 +173,10 @@ placed_slices front text at (t ∷ ts) here (gap, word, rest, is, b, e, some, sa
     let begins : t.begins ≡ length (front ++ gap) = omega (arith, here, b, l) in
     let ends : t.ends ≡ length ((front ++ gap) ++ word) = omega (arith, begins, e, o) in
     let long = ap length whole in
-    let slice = ap (λ s. slice_range s t.begins t.ends) whole ∙ slice_seam (front ++ gap) word rest t.begins t.ends begins e in
-    (record { within = omega (arith, long, m, n, begins, e); says = subst (Says t.kind) (sym slice) says },
-    subst (λ s. AreSlices s ts) (sym (whole ∙ again)) (placed_slices ((front ++ gap) ++ word) rest t.ends ts ends others))
+    let slice = ap (λ s. slice_range s t.begins t.ends) whole ∙ slice_seam (front ++ gap) word rest t.begins t.ends begins e in (
+      record { within = omega (arith, long, m, n, begins, e); says = subst (Says t.kind) (sym slice) says },
+      subst (λ s. AreSlices s ts) (sym (whole ∙ again)) (placed_slices ((front ++ gap) ++ word) rest t.ends ts ends others),
+    )
 
 pub placed_order : (text : List ℕ) (at : ℕ) (ts : List Token) → Placed at text ts → InOrder at ts
 placed_order text at [] h = tt

@@ -1,15 +1,15 @@
 -- What a step of the code has found is a part, or a fault.
-use Rattle.std.proofs.Common.{◌≡◌, ◌≢◌, ◌⊎◌, inl, inr, ℕ, zero, suc, ◌+◌, ◌<◌, ◌≤◌, Bool, true, false, cond, ◌&&◌, ◌||◌, ◌==◌, true≢false, List, [], ◌∷◌, ◌++◌, length, take, drop, get_or, Option, Result, Ok, Err, codes, refl, sym, ap, subst, ◌∙◌, append_assoc, arith}
+use Rattle.std.proofs.Common.{◌≡◌, inl, inr, ℕ, zero, suc, ◌+◌, ◌<◌, ◌≤◌, Bool, true, false, cond, ◌&&◌, ◌||◌, ◌==◌, true≢false, List, [], ◌∷◌, ◌++◌, length, take, drop, get_or, Result, Ok, Err, refl, sym, ap, subst, ◌∙◌, append_assoc, arith}
 use Rattle.std.proofs.lemmas.Bool.Decides.{nat_tests}
-use Rattle.std.proofs.lemmas.List.{append-nil, take-append-drop, length-take, length-drop, drop-drop}
+use Rattle.std.proofs.lemmas.List.{append-nil, take-append-drop, length-take, drop-drop}
 use Rattle.std.proofs.lemmas.Slice.Eq.{bytes_eq-Decides}
 use Rattle.std.proofs.Math.Seq.{take-append-add}
 use Rattle.std.specs.List.{list_any}
 use Rattle.std.specs.Str.{bytes_eq}
 use Rattle.jd_lex.specs.Signs.{signs, jml_signs, Listed, BeginsNone}
 use Rattle.jd_lex.specs.Bytes.{is_white, is_letter, in_line, AllOf, IsRun}
-use Rattle.jd_lex.specs.Parts.{Part, Fault, start_by, start_of, IsWhite, IsLineComment, IsBlockComment, IsOpen, NoClose, jml_text, IsPlain, IsPlainFault}
-use Rattle.jd_lex.specs.Lexing.{Parts, Faults, JmlPart, IsJmlPart, IsJmlFault, JavaPart, IsJavaPart, JavaFault, IsJavaFault, LineFault, BlockFault, CommentFault, CommentGives}
+use Rattle.jd_lex.specs.Parts.{Fault, start_by, start_of, IsWhite, IsLineComment, IsBlockComment, NoClose, jml_text, IsPlain, IsPlainFault}
+use Rattle.jd_lex.specs.Lexing.{Parts, JmlPart, IsJmlPart, IsJmlFault, JavaPart, IsJavaPart, JavaFault, IsJavaFault, CommentFault}
 use Rattle.jd_lex.specs.Lens.{Head, ClosesAt}
 use Rattle.jd_lex.specs.View.{tokens_view, Refuses, Took, StepGives, CommentAdded}
 use Rattle.jd_lex.specs.declared.starts.Start.{Start}
@@ -259,13 +259,13 @@ pub java_line_fault : (at : ℕ) (bytes : List ℕ) (n : ℕ) → start_of false
     → (e : LexRefusal) → Refuses (CommentFault at (jml_text false (take n (drop 2 bytes)))) e → Refuses (JavaFault LineComment at bytes) e
 java_line_fault at bytes n is h e k =
     refuses_more (CommentFault at (jml_text false (take n (drop 2 bytes)))) (JavaFault LineComment at bytes)
-      (λ f c. record { body = take n (drop 2 bytes); text = take (n + 2) bytes; rest = drop (n + 2) bytes; joined = sym (take-append-drop (n + 2) bytes); comment = line_at bytes n (begins_line false bytes is) h; inside = c }) e k
+    (λ f c. record { body = take n (drop 2 bytes); text = take (n + 2) bytes; rest = drop (n + 2) bytes; joined = sym (take-append-drop (n + 2) bytes); comment = line_at bytes n (begins_line false bytes is) h; inside = c }) e k
 
 pub java_block_fault : (at : ℕ) (bytes : List ℕ) (n : ℕ) → start_of false bytes ≡ BlockComment → ClosesAt (drop 2 bytes) n
     → (e : LexRefusal) → Refuses (CommentFault at (jml_text true (take n (drop 2 bytes)))) e → Refuses (JavaFault BlockComment at bytes) e
 java_block_fault at bytes n is h e k =
     refuses_more (CommentFault at (jml_text true (take n (drop 2 bytes)))) (JavaFault BlockComment at bytes)
-      (λ f c. inr (record { body = take n (drop 2 bytes); text = take (n + 4) bytes; rest = drop (n + 4) bytes; joined = sym (take-append-drop (n + 4) bytes); comment = block_at bytes n (begins_block false bytes is) h; inside = c })) e k
+    (λ f c. inr (record { body = take n (drop 2 bytes); text = take (n + 4) bytes; rest = drop (n + 4) bytes; joined = sym (take-append-drop (n + 4) bytes); comment = block_at bytes n (begins_block false bytes is) h; inside = c })) e k
 
 -- ---- what is not closed stays so
 

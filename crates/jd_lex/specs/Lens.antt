@@ -1,9 +1,8 @@
 -- How many bytes at the head of a text are of a kind, as the code's functions answer it.
-use Rattle.std.specs.Prelude.{◌≡◌, ◌⊎◌, ℕ, ◌+◌, ◌<◌, ◌≤◌, List, [], ◌∷◌, ◌++◌, length, take, drop, Bool}
-use Rattle.std.specs.List.{list_any}
+use Rattle.std.specs.Prelude.{◌≡◌, ◌⊎◌, ℕ, ◌+◌, ◌≤◌, List, [], ◌∷◌, ◌++◌, length, take, drop, Bool}
 use Rattle.jd_lex.specs.Signs.{Listed, BeginsWith}
-use Rattle.jd_lex.specs.Bytes.{is_white, is_digit, is_word_byte, is_at, in_line, ends_line, IsRun}
-use Rattle.jd_lex.specs.Parts.{Ignored, NoClose}
+use Rattle.jd_lex.specs.Bytes.{is_white, is_digit, is_word_byte, is_at, in_line}
+use Rattle.jd_lex.specs.Parts.{NoClose}
 use Rattle.jd_lex.specs.declared.runs.ByteKind.{ByteKind}
 use Rattle.jd_lex.specs.declared.runs.ByteKind.TheVariants as kinds
 

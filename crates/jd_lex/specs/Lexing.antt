@@ -1,7 +1,7 @@
 -- Which tokens a text spells, and which fault is its first.
-use Rattle.std.specs.Prelude.{◌≡◌, ◌≢◌, ◌⊎◌, ℕ, zero, suc, ◌+◌, ◌<◌, ◌≤◌, List, [], ◌∷◌, ◌++◌, length, get_or, slice_get, Bool, true, false, not, cond, ◌==◌, Option, Some, None}
+use Rattle.std.specs.Prelude.{◌≡◌, ◌⊎◌, ℕ, zero, suc, ◌+◌, ◌<◌, ◌≤◌, List, [], ◌∷◌, ◌++◌, length, get_or, Bool, true, false, not, cond, ◌==◌, Option, Some, None}
 use Rattle.std.specs.List.{flat_map}
-use Rattle.jd_lex.specs.Parts.{Kind, Token, Part, Fault, BadByte, OpenComment, BigLiteral, place, start_of, IsLineComment, IsBlockComment, IsOpen, jml_text, IsPlain, IsPlainFault}
+use Rattle.jd_lex.specs.Parts.{Token, Part, Fault, BadByte, OpenComment, place, start_of, IsLineComment, IsBlockComment, IsOpen, jml_text, IsPlain, IsPlainFault}
 use Rattle.jd_lex.specs.declared.starts.Start.{Start}
 use Rattle.jd_lex.specs.declared.starts.Start.TheVariants.{White, WordStart, NumberStart, LineComment, BlockComment, SignStart}
 

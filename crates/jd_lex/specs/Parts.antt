@@ -1,5 +1,5 @@
 -- Tokens, and the parts of a text: white space, comments, words, numbers and signs, each the longest that stands there.
-use Rattle.std.specs.Prelude.{◌≡◌, ◌≢◌, ◌⊎◌, ℕ, ◌+◌, ◌<◌, ◌≤◌, List, [], ◌∷◌, ◌++◌, length, get_or, Bool, true, false, cond, ◌==◌, ◌&&◌, ◌||◌, Option, Some, None, ℤ, pos}
+use Rattle.std.specs.Prelude.{◌≡◌, ◌≢◌, ℕ, ◌+◌, ◌<◌, ◌≤◌, List, [], ◌∷◌, ◌++◌, length, get_or, Bool, true, false, cond, ◌==◌, ◌&&◌, ◌||◌, Option, Some, None, ℤ, pos}
 use Rattle.std.specs.List.{list_any, list_all}
 use Rattle.std.specs.Str.Parse.{digits_value}
 use Rattle.jd_lex.specs.Signs.{signs, IsLongest, BeginsNone}
@@ -56,7 +56,7 @@ Ignored true ats rest = IsRun is_at ats rest
 Ignored false ats rest = ats ≡ []
 
 -- White space (JLS 3.6). In JML, `@` signs that follow it count to it where a line ends in it
--- (JML Reference Manual 4.2).
+-- (JML Reference Manual 4.4).
 pub record IsWhite (jml : Bool) (text rest : List ℕ) : Type 0 where
   pub white : List ℕ
   pub ats : List ℕ
@@ -113,7 +113,7 @@ abbrev pub without_last_ats : List ℕ → List ℕ
 without_last_ats [] = []
 without_last_ats (b ∷ bytes) = cond (list_all is_at (b ∷ bytes)) [] (b ∷ without_last_ats bytes)
 
--- The JML text of a comment, where it is JML (JML Reference Manual 4.2): what follows the `@` behind the opening,
+-- The JML text of a comment, where it is JML (JML Reference Manual 4.4): what follows the `@` behind the opening,
 -- without the `@` signs before a `*/`. The flag says whether the comment ends with `*/`.
 abbrev pub jml_text : Bool → List ℕ → Option (List ℕ)
 jml_text block [] = None

@@ -1,5 +1,5 @@
--- The signs: separators and operators (JLS 3.11, 3.12), and those of JML (JML Reference Manual 4.4).
-use Rattle.std.specs.Prelude.{◌≡◌, ◌⊎◌, ◌≤◌, ℕ, List, [], ◌∷◌, ◌++◌, length, Bool, true, false, cond, codes}
+-- The signs: separators and operators (JLS 3.11, 3.12), and those of JML (JML Reference Manual 4.6).
+use Rattle.std.specs.Prelude.{◌≡◌, ◌⊎◌, ◌≤◌, ℕ, List, [], ◌∷◌, ◌++◌, length, Bool, cond, codes}
 
 abbrev pub java_signs : List (List ℕ)
 java_signs =

@@ -1,5 +1,5 @@
 -- What the code's tokens and answers stand for.
-use Rattle.std.specs.Prelude.{◌≡◌, ℕ, ◌+◌, ◌<◌, ◌≤◌, List, [], ◌∷◌, ◌++◌, map, length, take, drop, cond, nat_le, Option, Result, Ok, Err}
+use Rattle.std.specs.Prelude.{◌≡◌, ℕ, ◌<◌, ◌≤◌, List, ◌++◌, map, length, take, drop, cond, nat_le, Option, Result, Ok, Err}
 use Rattle.std.specs.Global.{Vec}
 use Rattle.jd_lex.specs.Parts as plain
 use Rattle.jd_lex.specs.Parts.{Part, Fault}

@@ -37,6 +37,7 @@ fn comment_tokens(
     }
 }
 
+/// A comment to the line's end, and the tokens of its JML text.
 fn line_comment(
     alloc: Global,
     out: &mut Vec<Token>,
@@ -57,6 +58,7 @@ fn line_comment(
     }
 }
 
+/// A comment up to `*/`, and the tokens of its JML text.
 fn block_comment(
     alloc: Global,
     out: &mut Vec<Token>,
@@ -159,7 +161,8 @@ fn earlier(refusal: LexRefusal, escape: usize) -> LexRefusal
     }
 }
 
-/// The tokens of a Java source text and of its JML comments (JLS 3, JML Reference Manual 4).
+/// The tokens of a Java source text and of its JML comments (JLS 3, JML Reference Manual 4), of at most
+/// 1 MiB; else its first fault.
 pub fn tokens(alloc: Global, bytes: &[u8]) -> Result<Vec<Token>, LexRefusal>
     requires { length bytes.now ≤ 1048576 }
     ensures { Answers bytes.now result }

@@ -1,4 +1,5 @@
-//! The tokens of Java and JML.
+//! The tokens of Java source texts and of the JML in their comments, exactly, with their places; or the
+//! first fault of the text.
 #![tactic(auto)]
 
 mod java;

@@ -9,11 +9,11 @@ ghost use Rattle.jd_lex.specs.declared.starts.Start.TheVariants.{White, WordStar
 ghost use Rattle.jd_lex.specs.declared.token.LexRefusal.TheVariants as Refusal;
 ghost use Rattle.jd_lex.specs.declared.runs.ByteKind.TheVariants as kinds;
 
-use crate::runs::{ByteKind, close_at, numeral_len, run_len, value_of, white_len, word_len};
+use crate::runs::{numeral_len, value_of, word_len};
 use crate::signs::sign_len;
-use crate::starts::{Start, start_of};
 use crate::token::{LexRefusal, Token, TokenKind};
-use std::alloc::{AllocError, Global};
+use jd_base::copy_bytes;
+use std::alloc::Global;
 
 /// The greatest `int` literal, behind a minus sign (JLS 3.10.1).
 const JAVA_LIMIT: u128 = 2147483648;
@@ -42,6 +42,7 @@ fn push(
     Ok(())
 }
 
+/// Adds the word at the head, and answers its length.
 pub fn word_part(
     alloc: Global,
     out: &mut Vec<Token>,
@@ -55,7 +56,7 @@ pub fn word_part(
 {
     let n = word_len(bytes);
     let (text, _behind) = bytes.split_at(n);
-    push(out, TokenKind::Word(text.to_vec(alloc)?), jml, at, n)?;
+    push(out, TokenKind::Word(copy_bytes(alloc, text)?), jml, at, n)?;
     Ok(n)
 }
 
@@ -66,6 +67,7 @@ fn limit_of(jml: bool) -> u128
     if jml { JML_LIMIT } else { JAVA_LIMIT }
 }
 
+/// Adds the number at the head, and answers its length.
 pub fn number_part(
     out: &mut Vec<Token>,
     jml: bool,
@@ -88,6 +90,7 @@ pub fn number_part(
     }
 }
 
+/// Adds the sign at the head, and answers its length.
 pub fn sign_part(
     alloc: Global,
     out: &mut Vec<Token>,
@@ -104,6 +107,6 @@ pub fn sign_part(
         return Err(LexRefusal::BadByte { at: at as u32 });
     }
     let (text, _behind) = bytes.split_at(n);
-    push(out, TokenKind::Sign(text.to_vec(alloc)?), jml, at, n)?;
+    push(out, TokenKind::Sign(copy_bytes(alloc, text)?), jml, at, n)?;
     Ok(n)
 }

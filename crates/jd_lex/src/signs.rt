@@ -10,7 +10,7 @@ const JAVA_SIGNS: [&[u8]; 49] = [
     b"^=", b"%=", b"<<=", b">>=", b">>>=",
 ];
 
-/// The same and those of JML (JML Reference Manual 4.4).
+/// The same and those of JML (JML Reference Manual 4.6).
 const JML_SIGNS: [&[u8]; 54] = [
     b"==>", b"<==>", b"<==", b"<=!=>", b"..", b"(", b")", b"{", b"}", b"[", b"]", b";", b",", b".",
     b"@", b"=", b">", b"<", b"!", b"~", b"?", b":", b"==", b"<=", b">=", b"!=", b"&&", b"||",

@@ -1,9 +1,9 @@
+ghost use Rattle.std.specs.Prelude.{◌≡◌};
+ghost use Rattle.jd_lex.specs.declared.token.LexRefusal.TheVariants.{NoMemory as OutOfMemory};
+
 use jd_base::NoMemory;
 use std::alloc::{AllocError, AllocFailed};
 use thiserror::Error;
-
-ghost use Rattle.std.specs.Prelude.{◌≡◌};
-ghost use Rattle.jd_lex.specs.declared.token.LexRefusal.TheVariants.{NoMemory as OutOfMemory};
 
 /// What a token is.
 #[derive(Debug, Drop)]

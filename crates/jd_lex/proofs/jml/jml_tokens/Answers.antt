@@ -1,7 +1,5 @@
-use Rattle.std.proofs.Common.{ap, sym, subst, drop, ◌+◌}
-use Rattle.jd_lex.specs.Parts.{NoClose}
 use Rattle.jd_lex.specs.Lexing.{IsJmlPart}
-use Rattle.jd_lex.proofs.Rows.{Front, front_step}
+use Rattle.jd_lex.proofs.Rows.{front_step}
 use Rattle.jd_lex.proofs.Steps.{two_then}
 use Rattle.jd_lex.proofs.jml.jml_tokens.Goals as goal
 

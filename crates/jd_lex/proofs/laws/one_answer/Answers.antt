@@ -1,5 +1,4 @@
-use Rattle.std.proofs.Common.{inl, inr}
-use Rattle.jd_lex.specs.Lexing.{IsJavaPart, IsJavaFault}
+use Rattle.jd_lex.specs.Lexing.{IsJavaPart}
 use Rattle.jd_lex.proofs.Rows.{one_whole}
 use Rattle.jd_lex.proofs.Once.{one_java_part}
 use Rattle.jd_lex.proofs.First.{spelled_or_fault}

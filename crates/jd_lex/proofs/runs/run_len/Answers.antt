@@ -1,4 +1,4 @@
-use Rattle.std.proofs.Common.{length, rules, refl, le_refl, not, ◌≡◌, false}
+use Rattle.std.proofs.Common.{length, rules}
 use Rattle.jd_lex.specs.Lens.{test_of}
 use Rattle.jd_lex.proofs.Heads.{run_head}
 use Rattle.jd_lex.proofs.runs.run_len.Goals as goal

@@ -1,4 +1,4 @@
-use Rattle.std.proofs.Common.{◌≡◌, ◌++◌, ◌∷◌, [], ◌-◌, take, get_or, sym, ap, ◌∙◌, arith, rules, ne_eqb}
+use Rattle.std.proofs.Common.{◌++◌, ◌∷◌, [], ◌-◌, take, get_or, sym, ap, ◌∙◌, arith, rules, ne_eqb}
 use Rattle.jd_lex.specs.Parts.{without_last_ats}
 use Rattle.jd_lex.proofs.Heads.{last_of, without_at, without_other}
 use Rattle.jd_lex.proofs.runs.trimmed_len.Goals as goal

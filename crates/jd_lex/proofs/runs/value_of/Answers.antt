@@ -1,4 +1,4 @@
-use Rattle.std.proofs.Common.{arith, ◌+◌, ◌*◌}
+use Rattle.std.proofs.Common.{◌+◌, ◌*◌}
 use Rattle.jd_lex.specs.Bytes.{is_digit}
 use Rattle.jd_lex.proofs.Heads.{all_of_at, digit_range, value_more, too_big, soon_too_big}
 use Rattle.jd_lex.proofs.runs.value_of.Goals as goal

@@ -1,4 +1,4 @@
-use Rattle.std.proofs.Common.{inl, inr, refl, arith, length, drop, ◌≡◌, true, false, true≢false, sym, ◌∙◌}
+use Rattle.std.proofs.Common.{inl, inr, refl, arith, length, drop, true≢false, sym, ◌∙◌}
 use Rattle.std.proofs.lemmas.Slice.Eq.{starts_is}
 use Rattle.std.proofs.lemmas.Bool.Decides.{Decides-eqb}
 use Rattle.jd_lex.proofs.signs.longer.Goals as goal
