@@ -1,0 +1,10 @@
+pub mod Heads
+pub mod Longest
+pub mod Rows
+pub mod Same
+pub mod Steps
+pub mod Once
+pub mod First
+pub mod Decimals
+pub mod Slices
+pub mod Marks
