@@ -1,7 +1,7 @@
-ghost use Rattle.std.specs.Prelude.{◌≡◌, ◌≢◌, ◌<◌, ◌≤◌, ◌+◌, ℕ, List, false, length, take, drop, get_or, slice_get, IfSome, IfNone, MatchOption};
-ghost use Rattle.jd_lex.specs.Parts.{start_of, jml_text, NoClose, Token};
-ghost use Rattle.jd_lex.specs.Lexing.{IsJavaPart, JavaPart, JavaFault, IsJavaFault, IsEscape, Spells, HasFault, CommentGives};
-ghost use Rattle.jd_lex.specs.View.{earlier_of, StepGives, CommentAdds, Lexes, Refuses, Answers};
+ghost use Rattle.std.specs.Prelude.{◌≡◌, ◌<◌, ◌≤◌, ◌+◌, ℕ, false, length, IfSome, IfNone};
+ghost use Rattle.jd_lex.specs.Parts.{start_of, jml_text, Token};
+ghost use Rattle.jd_lex.specs.Lexing.{IsJavaPart, JavaPart, JavaFault, IsJavaFault, IsEscape};
+ghost use Rattle.jd_lex.specs.View.{earlier_of, StepGives, CommentAdds, Lexes, Answers};
 ghost use Rattle.jd_lex.specs.declared.starts.Start.TheVariants.{LineComment, BlockComment};
 
 use crate::jml::{block_len, jml_tokens, line_len};

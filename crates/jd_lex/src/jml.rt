@@ -1,6 +1,6 @@
-ghost use Rattle.std.specs.Prelude.{◌≡◌, ◌<◌, ◌≤◌, ◌+◌, ℕ, length, take, drop, true, IsTrue, MatchOption};
+ghost use Rattle.std.specs.Prelude.{◌≡◌, ◌<◌, ◌≤◌, ◌+◌, length, drop, true, IsTrue, MatchOption};
 ghost use Rattle.jd_lex.specs.Bytes.{in_line, IsRun};
-ghost use Rattle.jd_lex.specs.Parts.{start_of, NoClose, IsPlain, IsPlainFault};
+ghost use Rattle.jd_lex.specs.Parts.{start_of, NoClose};
 ghost use Rattle.jd_lex.specs.Lexing.{IsJmlPart, IsJmlFault, JmlPart};
 ghost use Rattle.jd_lex.specs.Lens.{Head, ClosesAt};
 ghost use Rattle.jd_lex.specs.View.{StepGives, Adds};

@@ -1,4 +1,4 @@
-ghost use Rattle.std.specs.Prelude.{◌≡◌, ◌<◌, ◌≤◌, ℕ, List};
+ghost use Rattle.std.specs.Prelude.{◌≡◌, ℕ, List};
 ghost use Rattle.jd_lex.specs.Parts.{Token, Fault};
 ghost use Rattle.jd_lex.specs.Lexing.{Spells, HasFault, IsFirstFault};
 ghost use Rattle.jd_lex.specs.Places.{AreSlices, InOrder};

@@ -1,13 +1,8 @@
-ghost use Rattle.std.specs.Prelude.{◌≡◌, ◌≢◌, ◌<◌, ◌≤◌, ◌+◌, ◌++◌, ◌∷◌, [], ℕ, Bool, true, length, take, drop, ◌^◌, OnOk, IfErr, IsTrue, MatchOption};
-ghost use Rattle.jd_lex.specs.Bytes.{is_digit, AllOf, IsRun};
-ghost use Rattle.jd_lex.specs.Parts.{start_of, NoClose, IsPlain, IsPlainFault};
-ghost use Rattle.jd_lex.specs.Lexing.{IsJmlPart, IsJmlFault};
-ghost use Rattle.jd_lex.specs.Lens.{Head, ClosesAt, test_of};
+ghost use Rattle.std.specs.Prelude.{◌≡◌, ◌<◌, ◌≤◌, ◌+◌, ◌++◌, ◌∷◌, [], length, ◌^◌, OnOk, IfErr};
+ghost use Rattle.jd_lex.specs.Parts.{start_of, IsPlain, IsPlainFault};
 ghost use Rattle.jd_lex.specs.View.{kind_view, tokens_view, StepGives, Adds};
-ghost use Rattle.jd_lex.specs.declared.starts.Start.{Start};
-ghost use Rattle.jd_lex.specs.declared.starts.Start.TheVariants.{White, WordStart, NumberStart, LineComment, BlockComment, SignStart};
+ghost use Rattle.jd_lex.specs.declared.starts.Start.TheVariants.{WordStart, NumberStart, SignStart};
 ghost use Rattle.jd_lex.specs.declared.token.LexRefusal.TheVariants as Refusal;
-ghost use Rattle.jd_lex.specs.declared.runs.ByteKind.TheVariants as kinds;
 
 use crate::runs::{numeral_len, value_of, word_len};
 use crate::signs::sign_len;

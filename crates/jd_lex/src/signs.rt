@@ -1,5 +1,5 @@
-ghost use Rattle.std.specs.Prelude.{◌≡◌, ◌≤◌, ◌<◌, ℕ, List, length, map, take, drop};
-ghost use Rattle.jd_lex.specs.Signs.{signs, java_signs, jml_signs};
+ghost use Rattle.std.specs.Prelude.{◌<◌, length, map};
+ghost use Rattle.jd_lex.specs.Signs.{signs};
 ghost use Rattle.jd_lex.specs.Lens.{Longer, LongestLen};
 
 /// Separators and operators (JLS 3.11, 3.12).
