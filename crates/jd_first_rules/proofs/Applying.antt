@@ -1,17 +1,16 @@
 -- From what a step's stages find to the set's instances.
-use Rattle.std.proofs.Common.{◌≡◌, ℕ, List, [], ◌∷◌, length, map, Option, Some, None, refl, sym, ap, ◌∙◌, subst, arith}
+use Rattle.std.proofs.Common.{◌≡◌, List, [], ◌∷◌, length, map, Option, Some, None, refl, sym, ap, ◌∙◌, subst, arith}
 use Rattle.std.specs.Prelude.{option_and_then}
 use Rattle.jd_term.specs.Formulas.{PlainFormula, formula_view}
 use Rattle.jd_model.specs.declared.sequent.Side.{Side}
 use Rattle.jd_model.specs.declared.sequent.Side.TheVariants.{Right}
 use Rattle.jd_model.specs.Sequents.{PlainSequent, PlainPlace}
-use Rattle.jd_model.specs.Places.{Part, FormulaPart, on_side, numbered, part_at, at_place, IsFormulaPlace}
+use Rattle.jd_model.specs.Places.{FormulaPart, on_side, numbered, part_at, at_place}
 use Rattle.jd_sequent.specs.Trees.{PlainStep}
 use Rattle.jd_first_steps.specs.declared.rules.FirstRule.{FirstRule}
 use Rattle.jd_first_steps.specs.declared.rules.FirstRule.TheVariants.{Close, CloseTrue, NotLeft, AndLeft, AndRight, ImpRight, EqRefl, SetSimple, FrameReturn, CatchEmpty, EmptyCode, Simplify}
 use Rattle.jd_first_steps.specs.Names.{rule_name}
-use Rattle.jd_first_steps.specs.Rows.{row_goals, goal_premise}
-use Rattle.jd_first_steps.specs.Rewrites.{Rewrites}
+use Rattle.jd_first_steps.specs.Rows.{goal_premise}
 use Rattle.jd_first_steps.specs.Instances.{IsInstance}
 use Rattle.jd_first_rules.specs.declared.rules.Kind.{Kind}
 use Rattle.jd_first_rules.specs.declared.rules.Kind.TheVariants.{Closing, Whole, Anywhere}

@@ -1,22 +1,21 @@
 -- The least cause of a refusal: the causes below it do not hold, since what they ask for was found.
-use Rattle.std.proofs.Common.{◌≡◌, ◌≢◌, ℕ, suc, ◌<◌, ◌⊎◌, inl, inr, List, [], All, Option, Some, None, sym, ap, ◌∙◌, subst, arith}
+use Rattle.std.proofs.Common.{◌≡◌, ◌≢◌, ℕ, suc, ◌<◌, ◌⊎◌, inl, inr, List, [], All, Some, sym, subst, arith}
 use Rattle.std.proofs.lemmas.Bool.{cases_order}
 use Rattle.jd_term.specs.Formulas.{PlainFormula}
 use Rattle.jd_model.specs.Sequents.{PlainSequent, PlainPlace}
-use Rattle.jd_model.specs.Places.{Part, FormulaPart, on_side, numbered, at_place}
+use Rattle.jd_model.specs.Places.{Part, FormulaPart, at_place}
 use Rattle.jd_sequent.specs.Trees.{PlainStep}
 use Rattle.jd_sequent.specs.Limits.{IsWithinLimits}
 use Rattle.jd_sequent.specs.Rules.{IsLeastCause}
 use Rattle.jd_first_steps.specs.declared.rules.FirstRule.{FirstRule}
 use Rattle.jd_first_steps.specs.declared.rules.FirstRule.TheVariants.{Close}
-use Rattle.jd_first_steps.specs.Names.{rule_name, rule_named}
+use Rattle.jd_first_steps.specs.Names.{rule_name}
 use Rattle.jd_first_steps.specs.Instances.{IsInstance}
 use Rattle.jd_first_rules.specs.Steps.{kind_of}
-use Rattle.jd_first_rules.specs.Causes.{HasNoFormula, HasNoPlace, IsOfWrongKind, IsNotTaken, IsAssumed, AssumesWrongly, Cause}
+use Rattle.jd_first_rules.specs.Causes.{IsNotTaken, IsAssumed, AssumesWrongly, Cause}
 use Rattle.jd_first_rules.specs.Results.{IsAt, AssumesRightly}
-use Rattle.jd_first_rules.specs.Places.{no_some, formula_same}
-use Rattle.jd_first_rules.specs.Laws.{named_back}
-use Rattle.jd_first_rules.specs.NoCause.{formula_there, place_there, right_kind, matched, assumed, instance_refutes}
+use Rattle.jd_first_rules.specs.Places.{formula_same}
+use Rattle.jd_first_rules.specs.NoCause.{formula_there, place_there, right_kind, matched, instance_refutes}
 
 -- no cause with a smaller number, from 1 on
 abbrev NoneBelow : (ℕ → Type 0) → ℕ → Type 0

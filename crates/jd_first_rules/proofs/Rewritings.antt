@@ -1,12 +1,12 @@
 -- From what a function made of a formula to the rule's relation.
-use Rattle.std.proofs.Common.{◌≡◌, List, [], Option, Some, None, Result, Ok, Err, IfOk, option_map, refl, sym, ap, ◌∙◌, subst, true, false, Bool}
+use Rattle.std.proofs.Common.{◌≡◌, Option, Some, None, Result, Ok, Err, IfOk, option_map, sym, ap, ◌∙◌}
 use Rattle.jd_base.specs.declared.memory.NoMemory.{NoMemory}
-use Rattle.jd_syntax.specs.Codes.{Done, Then}
+use Rattle.jd_syntax.specs.Codes.{Done}
 use Rattle.jd_term.specs.declared.formula.Formula.{Formula}
 use Rattle.jd_term.specs.Formulas.{PlainFormula, Modal, formula_view}
 use Rattle.jd_first_steps.specs.declared.rules.FirstRule.{FirstRule}
-use Rattle.jd_first_steps.specs.declared.rules.FirstRule.TheVariants.{EqRefl, SetSimple, FrameReturn, CatchEmpty, EmptyCode, Simplify}
-use Rattle.jd_first_steps.specs.Rewrites.{Rewrites, IsEmptyCode, IsSetSimple, IsFrameReturn, IsCatchEmpty}
+use Rattle.jd_first_steps.specs.declared.rules.FirstRule.TheVariants.{SetSimple, FrameReturn, CatchEmpty, EmptyCode}
+use Rattle.jd_first_steps.specs.Rewrites.{Rewrites, IsEmptyCode}
 use Rattle.jd_first_rules.specs.Focus.{executed, emptied}
 use Rattle.jd_first_rules.specs.Results.{IsRewriting}
 use Rattle.jd_first_rules.specs.Executions.{set_executed, set_from, return_executed, return_from, catch_executed, catch_from}

@@ -1,5 +1,5 @@
 -- What a rule makes of code at a focus is what it makes of the statement there.
-use Rattle.std.proofs.Common.{◌≡◌, ℕ, List, [], ◌∷◌, Option, Some, None, option_map, refl, sym, ap, ◌∙◌, subst}
+use Rattle.std.proofs.Common.{◌≡◌, Option, Some, None, option_map, refl, sym, ap, ◌∙◌, subst}
 use Rattle.jd_syntax.specs.Names.{Name}
 use Rattle.jd_syntax.specs.Codes.{Expr, Stmt, Set, Frame, Return, Catch, Block, Finally, PlainCode, Done, Then}
 use Rattle.jd_term.specs.Terms.{PlainTerm}

@@ -1,5 +1,5 @@
 -- What the rules on code make of a focus.
-use Rattle.std.specs.Prelude.{ℕ, List, [], ◌∷◌, Option, Some, None, option_map}
+use Rattle.std.specs.Prelude.{ℕ, [], ◌∷◌, Option, Some, None, option_map}
 use Rattle.jd_syntax.specs.Names.{Name}
 use Rattle.jd_syntax.specs.Codes.{Stmt, Set, Frame, Return, Catch, Block, Finally, PlainCode, Done, Then}
 use Rattle.jd_term.specs.Terms.{PlainTerm}

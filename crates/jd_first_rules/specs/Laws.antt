@@ -1,5 +1,5 @@
 -- The laws of the rules: their premises are determined and few.
-use Rattle.std.proofs.Common.{◌≡◌, ℕ, ◌<◌, ◌≤◌, ◌^◌, List, [], ◌∷◌, length, map, Option, Some, None, refl, sym, ap, ◌∙◌, subst, arith}
+use Rattle.std.proofs.Common.{◌≡◌, ◌<◌, ◌≤◌, ◌^◌, List, [], ◌∷◌, length, map, Some, None, refl, sym, ap, ◌∙◌, subst, arith}
 use Rattle.std.proofs.lemmas.List.{length-map}
 use Rattle.jd_term.specs.Formulas.{PlainFormula, TrueFormula, Not, And, Implies}
 use Rattle.jd_model.specs.declared.sequent.Side.{Side}
@@ -7,17 +7,16 @@ use Rattle.jd_model.specs.declared.sequent.Side.TheVariants.{Left, Right}
 use Rattle.jd_model.specs.Sequents.{PlainSequent}
 use Rattle.jd_model.specs.Places.{on_side, numbered, put_at}
 use Rattle.jd_sequent.specs.Trees.{PlainStep}
-use Rattle.jd_update.specs.Push.{simplified}
 use Rattle.jd_first_steps.specs.declared.rules.FirstRule.{FirstRule}
 use Rattle.jd_first_steps.specs.declared.rules.FirstRule.TheVariants.{Close, CloseTrue, NotLeft, AndLeft, AndRight, ImpRight, EqRefl, SetSimple, FrameReturn, CatchEmpty, EmptyCode, Simplify}
 use Rattle.jd_first_rules.specs.declared.rules.Kind.{Kind}
 use Rattle.jd_first_rules.specs.declared.rules.Kind.TheVariants.{Closing, Whole, Anywhere}
 use Rattle.jd_first_steps.specs.Names.{rule_name, rule_named}
 use Rattle.jd_first_steps.specs.Rows.{Goal, row_goals, goal_premise}
-use Rattle.jd_first_steps.specs.Rewrites.{Rewrites, IsEmptyCode}
-use Rattle.jd_first_rules.specs.Focus.{executed, emptied}
+use Rattle.jd_first_steps.specs.Rewrites.{Rewrites}
+use Rattle.jd_first_rules.specs.Focus.{emptied}
 use Rattle.jd_first_rules.specs.Executions.{set_executed, return_executed, catch_executed}
-use Rattle.jd_first_steps.specs.Instances.{IsClose, IsRow, IsRewrite, IsInstance}
+use Rattle.jd_first_steps.specs.Instances.{IsInstance}
 use Rattle.jd_first_rules.specs.Steps.{kind_of, IsStep}
 use Rattle.jd_first_rules.specs.StepKinds.{IsOfKind, of_kind}
 use Rattle.jd_first_rules.specs.Places.{some_same, one_formula}

@@ -1,5 +1,5 @@
 -- An instance whose premises are within the limits has no cause.
-use Rattle.std.proofs.Common.{◌≡◌, ℕ, zero, suc, List, [], ◌∷◌, Option, Some, None, All, ⊎_elim, refl, sym, ap, ◌∙◌, subst}
+use Rattle.std.proofs.Common.{◌≡◌, ℕ, zero, suc, List, [], Option, Some, None, All, refl, sym, ap, ◌∙◌, subst}
 use Rattle.std.specs.Prelude.{option_and_then}
 use Rattle.jd_term.specs.Formulas.{PlainFormula, TrueFormula, Not, And, Implies}
 use Rattle.jd_model.specs.declared.sequent.Side.{Side}
@@ -19,7 +19,7 @@ use Rattle.jd_first_rules.specs.declared.rules.Kind.{Kind}
 use Rattle.jd_first_rules.specs.declared.rules.Kind.TheVariants.{Closing, Whole, Anywhere}
 use Rattle.jd_first_rules.specs.Steps.{kind_of}
 use Rattle.jd_first_rules.specs.StepKinds.{IsOfKind, of_kind}
-use Rattle.jd_first_rules.specs.Causes.{OfRule, OfPlace, IsUnknownRule, HasNoFormula, HasNoPlace, whole_side, IsOn, IsOfWrongKind, IsNotTaken, IsNotMatched, IsAssumed, AssumesWrongly, IsTooLarge, Cause}
+use Rattle.jd_first_rules.specs.Causes.{OfRule, OfPlace, HasNoFormula, HasNoPlace, whole_side, IsOn, IsOfWrongKind, IsNotTaken, IsNotMatched, AssumesWrongly, IsTooLarge, Cause}
 use Rattle.jd_first_rules.specs.Results.{IsAt, AssumesRightly}
 use Rattle.jd_first_rules.specs.Places.{no_some, some_same}
 use Rattle.jd_first_rules.specs.Laws.{same_rule, one_way}

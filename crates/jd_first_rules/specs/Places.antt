@@ -1,8 +1,8 @@
 -- What stands at a place is one.
-use Rattle.std.proofs.Common.{◌≡◌, ℕ, zero, suc, ◌<◌, ◌≤◌, List, length, Option, Some, None, refl, sym, ap, ◌∙◌, arith}
+use Rattle.std.proofs.Common.{◌≡◌, Some, None, sym, ap, ◌∙◌}
 use Rattle.jd_term.specs.Formulas.{PlainFormula}
 use Rattle.jd_model.specs.Sequents.{PlainSequent, PlainPlace}
-use Rattle.jd_model.specs.Places.{Part, FormulaPart, on_side, numbered, part_at, at_place}
+use Rattle.jd_model.specs.Places.{FormulaPart, at_place}
 
 pub no_some : {A : Type 0} {x : A} → None ≡ Some x → ⊥
 no_some h = cc

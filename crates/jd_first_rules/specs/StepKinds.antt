@@ -1,6 +1,5 @@
 -- Which of the three kinds of steps a rule has.
 use Rattle.std.proofs.Common.{◌≡◌, List, None, Some, ⊎_elim, inl, inr}
-use Rattle.std.specs.Prelude.{◌⊎◌}
 use Rattle.jd_model.specs.Sequents.{PlainSequent}
 use Rattle.jd_sequent.specs.Trees.{PlainStep}
 use Rattle.jd_first_steps.specs.declared.rules.FirstRule.{FirstRule}

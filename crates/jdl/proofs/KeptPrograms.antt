@@ -11,9 +11,8 @@ use Rattle.jd_first_meaning.specs.SpelledPrograms.{IsProgramOf}
 use Rattle.jd_first_meaning.specs.ClosedPrograms.{task_of}
 use Rattle.jd_first_meaning.proofs.KeptPrograms.{closed_programs_are_kept}
 use Rattle.jdl.specs.Words.{replay_words}
-use Rattle.jdl.specs.Answers.{AcceptsObligations}
 use Rattle.jdl.specs.Outcomes.{IsAccepted}
-use Rattle.jdl.specs.KeptPrograms.{FileSpells, EachCaseIsKept}
+use Rattle.jdl.specs.KeptPrograms.{EachCaseIsKept}
 
 same_some : {A : Type 0} {x y : A} → Some x ≡ Some y → x ≡ y
 same_some h = cc

@@ -1,6 +1,6 @@
 -- The sequents of programs' obligations are sorted, so that the first rules take them.
-use Rattle.std.proofs.Common.{◌≡◌, ℕ, List, [], ◌∷◌, ◌++◌, map, refl}
-use Rattle.jd_base.specs.declared.sort.Sort.TheVariants.{Int as IntSort, Ref as RefSort}
+use Rattle.std.proofs.Common.{ℕ, List, [], ◌∷◌, ◌++◌, map, refl}
+use Rattle.jd_base.specs.declared.sort.Sort.TheVariants.{Int as IntSort}
 use Rattle.jd_term.specs.Terms.{PlainTerm}
 use Rattle.jd_term.specs.Formulas.{Pairs, PlainFormula}
 use Rattle.jd_model.specs.Conjunctions.{conjunction}
