@@ -39,7 +39,7 @@ pub data OutcomesAgree {A : Type 0} (R : State → State → Type 0) : Outcome A
   no_length : OutcomesAgree R NoLength NoLength
   not_ended : OutcomesAgree R NotEnded NotEnded
 
--- a relation of states that reads at P see no_entries of, that writes at Q keep, and the changes of the heap that code makes
+-- a relation of states that reads at P see nothing of, that writes at Q keep, and the changes of the heap that code makes
 pub record Alike (P Q : Name → Type 0) (R : State → State → Type 0) : Type 0 where
   pub reads : (x : Name) → P x → (s t : State) → R s t → read s x ≡ read t x
   pub writes : (x : Name) → Q x → (v : Value) (s t : State) → R s t → R (write s x v) (write t x v)

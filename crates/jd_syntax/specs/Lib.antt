@@ -4,3 +4,6 @@ pub mod CodeSizes
 pub mod CodeViews
 pub mod Names
 pub mod Sxs
+pub mod JavaTypes
+pub mod SpecTrees
+pub mod JavaTrees

@@ -1,16 +1,27 @@
-//! Resolved Java code, and bracketed expressions.
+//! The trees of Java and JML, resolved Java code, and bracketed expressions.
 #![tactic(auto)]
 
 mod code;
 mod copy;
 mod equal;
+mod java;
 mod mentions;
 mod size;
+mod spec;
 mod sx;
 #[cfg(test)]
 mod tests;
 mod variable;
 
 pub use code::{BinaryOp, Code, CodeExpr, CodeStmt, Kind, UnaryOp};
+pub use java::{
+    AssignmentOperator, ClassDecl, ConstantDecl, CountOperator, Declarator, Expr, ExprForm,
+    FieldDecl, ForStart, Handler, Identifier, InfixOperator, JavaType, Member, MethodDecl,
+    Parameter, PrefixOperator, ResultType, Stmt, StmtForm, Unit, WrittenType,
+};
+pub use spec::{
+    ClauseForm, LocExpr, LocForm, Marks, Quantifier, SpecBlock, SpecCase, SpecClause, SpecExpr,
+    SpecForm, SpecPlace, SpecPrefix, SpecType,
+};
 pub use sx::Sx;
 pub use variable::{VarDecl, VarId};
