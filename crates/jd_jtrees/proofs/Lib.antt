@@ -1,0 +1,4 @@
+pub mod ExpressionsMade
+pub mod BodiesMade
+pub mod UnitsMade
+pub mod LimitLaws
