@@ -1,5 +1,8 @@
-pub mod Along
-pub mod Forms
 pub mod Mapped
-pub mod Meaning
 pub mod Decimals
+pub mod Heads
+pub mod Several
+pub mod Pieces
+pub mod Whole
+pub mod Scopes
+pub mod Meaning

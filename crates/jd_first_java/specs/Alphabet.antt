@@ -1,4 +1,4 @@
--- The bytes of Java and JML: white space, the bytes of words, and those of two kinds of signs (JLS 3.6, 3.8, 3.11, 3.12).
+-- The bytes of Java and JML: white space, the bytes of words, and those of three kinds of signs (JLS 3.6, 3.8, 3.11, 3.12).
 use Rattle.std.specs.Prelude.{ℕ, Bool, nat_le, cond, ◌==◌, ◌&&◌, ◌||◌}
 use Rattle.std.specs.Char.{is_ascii_digit}
 use Rattle.jd_lexemes.specs.declared.alphabet.Class.{Class}
@@ -20,9 +20,11 @@ is_comparison_byte b = (b == 61) || (b == 33) || (b == 60) || (b == 62)
 abbrev pub is_comment_byte : ℕ → Bool
 is_comment_byte b = (b == 47) || (b == 42) || (b == 64)
 
+-- `&` is the third kind
 abbrev pub java_class : ℕ → Class
 java_class b =
     cond (is_white_space b) Blank
     (cond (is_name_byte b || (b == 92)) (Run 0)
     (cond (is_comparison_byte b) (Run 1)
-    (cond (is_comment_byte b) (Run 2) Single)))
+    (cond (is_comment_byte b) (Run 2)
+    (cond (b == 38) (Run 3) Single))))

@@ -1,4 +1,4 @@
 pub mod Alphabet
 pub mod Programs
-pub mod Outlines
+pub mod Grammar
 pub mod Reads

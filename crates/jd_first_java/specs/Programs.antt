@@ -1,5 +1,5 @@
--- A class with one static method whose postcondition compares two operands, and how it is written.
-use Rattle.std.specs.Prelude.{◌≡◌, ◌≢◌, ℕ, ◌<◌, ◌≤◌, ◌^◌, List, [], ◌∷◌, ◌++◌, length, slice_index, codes, false}
+-- A class with one static method of assignments, whose contract compares operands, and how it is written.
+use Rattle.std.specs.Prelude.{◌≡◌, ◌≢◌, ℕ, ◌+◌, ◌<◌, ◌≤◌, ◌^◌, List, [], ◌∷◌, ◌++◌, length, slice_index, codes, false}
 use Rattle.std.specs.Char.{is_ascii_digit}
 use Rattle.std.specs.List.{All, AllPass, AllPairs, Contains}
 use Rattle.std.specs.Fmt.{decimal}
@@ -8,7 +8,7 @@ use Rattle.jd_first_java.specs.declared.syntax.Comparison.{Comparison}
 use Rattle.jd_first_java.specs.declared.syntax.Comparison.TheVariants.{Equal, NotEqual, Less, LessOrEqual, Greater, GreaterOrEqual}
 
 pub data Operand : Type 0 where
-  Parameter : List ℕ → Operand
+  Named : List ℕ → Operand
   Literal : ℕ → Operand
   Result : Operand
 
@@ -17,12 +17,20 @@ pub record Condition : Type 0 where
   pub comparison : Comparison
   pub right : Operand
 
+-- `int x = e;`, `x = e;` and `return e;`
+pub data Statement : Type 0 where
+  Declare : List ℕ → Operand → Statement
+  Assign : List ℕ → Operand → Statement
+  ReturnValue : Operand → Statement
+
+-- without conditions that are required, no such clause is written
 pub record Program : Type 0 where
   pub class : List ℕ
   pub method : List ℕ
   pub parameters : List (List ℕ)
-  pub ensures_ : Condition
-  pub value : Operand
+  pub requires_ : List Condition
+  pub ensures_ : List Condition
+  pub body : List Statement
 
 -- ---- how it is written, lexeme by lexeme
 
@@ -35,7 +43,7 @@ comparison_text Greater = codes ">"
 comparison_text GreaterOrEqual = codes ">="
 
 abbrev pub operand_text : Operand → List ℕ
-operand_text (Parameter name) = name
+operand_text (Named name) = name
 operand_text (Literal n) = decimal n
 operand_text Result = codes "\\result"
 
@@ -47,14 +55,37 @@ abbrev pub parameter_list : List (List ℕ) → List (List ℕ)
 parameter_list [] = []
 parameter_list (p ∷ ps) = codes "int" ∷ p ∷ further_parameters ps
 
--- class C { /*@ ensures S OP S ; @*/ static int M ( int P , int P ) { return E ; } }
+-- a condition, and what stands behind it
+abbrev pub condition_texts : Condition → List (List ℕ) → List (List ℕ)
+condition_texts c rest = operand_text c.left ∷ comparison_text c.comparison ∷ operand_text c.right ∷ rest
+
+-- the conditions of a clause behind its first, and its end
+abbrev pub further_conditions : List Condition → List (List ℕ) → List (List ℕ)
+further_conditions [] rest = codes ";" ∷ rest
+further_conditions (c ∷ cs) rest = codes "&&" ∷ condition_texts c (further_conditions cs rest)
+
+-- a clause: its word, and one condition or more
+abbrev pub clause_texts : List ℕ → List Condition → List (List ℕ) → List (List ℕ)
+clause_texts word [] rest = rest
+clause_texts word (c ∷ cs) rest = word ∷ condition_texts c (further_conditions cs rest)
+
+abbrev pub statement_texts : Statement → List (List ℕ) → List (List ℕ)
+statement_texts (Declare name e) rest = codes "int" ∷ name ∷ codes "=" ∷ operand_text e ∷ codes ";" ∷ rest
+statement_texts (Assign name e) rest = name ∷ codes "=" ∷ operand_text e ∷ codes ";" ∷ rest
+statement_texts (ReturnValue e) rest = codes "return" ∷ operand_text e ∷ codes ";" ∷ rest
+
+abbrev pub body_texts : List Statement → List (List ℕ) → List (List ℕ)
+body_texts [] rest = rest
+body_texts (s ∷ ss) rest = statement_texts s (body_texts ss rest)
+
+-- class C { /*@ requires S OP S && S OP S ; ensures S OP S && S OP S ; @*/ static int M ( int P , int P ) { BODY } }
 abbrev pub written : Program → List (List ℕ)
 written p =
-    codes "class" ∷ p.class ∷ codes "{"
-    ∷ codes "/*@" ∷ codes "ensures" ∷ operand_text p.ensures_.left ∷ comparison_text p.ensures_.comparison ∷ operand_text p.ensures_.right ∷ codes ";" ∷ codes "@*/"
-    ∷ codes "static" ∷ codes "int" ∷ p.method ∷ codes "("
+    codes "class" ∷ p.class ∷ codes "{" ∷ codes "/*@"
+    ∷ clause_texts (codes "requires") p.requires_ (clause_texts (codes "ensures") p.ensures_
+    (codes "@*/" ∷ codes "static" ∷ codes "int" ∷ p.method ∷ codes "("
     ∷ (parameter_list p.parameters
-    ++ (codes ")" ∷ codes "{" ∷ codes "return" ∷ operand_text p.value ∷ codes ";" ∷ codes "}" ∷ codes "}" ∷ []))
+    ++ (codes ")" ∷ codes "{" ∷ body_texts p.body (codes "}" ∷ codes "}" ∷ [])))))
 
 -- ---- which programs there are
 
@@ -82,17 +113,30 @@ pub record IsIdentifier (w : List ℕ) : Type 0 where
   pub no_digit_first : is_ascii_digit (slice_index w 0) ≡ false
   pub not_reserved : ¬ Contains reserved_words w
 
--- a parameter, or a literal of type int (JLS 3.10.1)
+-- a name in scope, or a literal of type int (JLS 3.10.1)
 abbrev pub IsValue : List (List ℕ) → Operand → Type 0
-IsValue parameters (Parameter name) = Contains parameters name
-IsValue parameters (Literal n) = n < 2 ^ 31
-IsValue parameters Result = ⊥
+IsValue scope (Named name) = Contains scope name
+IsValue scope (Literal n) = n < 2 ^ 31
+IsValue scope Result = ⊥
 
 -- what a postcondition may name: the method's result too (JML Reference Manual, 12.4.1)
 abbrev pub IsOperand : List (List ℕ) → Operand → Type 0
-IsOperand parameters (Parameter name) = Contains parameters name
+IsOperand parameters (Named name) = Contains parameters name
 IsOperand parameters (Literal n) = n < 2 ^ 31
 IsOperand parameters Result = Unit {0}
+
+abbrev pub IsRequired : List (List ℕ) → Condition → Type 0
+IsRequired parameters c = IsValue parameters c.left × IsValue parameters c.right
+
+abbrev pub IsEnsured : List (List ℕ) → Condition → Type 0
+IsEnsured parameters c = IsOperand parameters c.left × IsOperand parameters c.right
+
+-- each names what is declared before it, and declares no name twice (JLS 6.3, 6.4)
+abbrev pub AreStatements : List (List ℕ) → List Statement → Type 0
+AreStatements scope [] = Unit {0}
+AreStatements scope (Declare name e ∷ ss) = IsIdentifier name × (¬ Contains scope name) × IsValue scope e × AreStatements (scope ++ (name ∷ [])) ss
+AreStatements scope (Assign name e ∷ ss) = Contains scope name × IsValue scope e × AreStatements scope ss
+AreStatements scope (ReturnValue e ∷ ss) = IsValue scope e × AreStatements scope ss
 
 pub record AreParameters (ps : List (List ℕ)) : Type 0 where
   pub few : length ps ≤ 20
@@ -104,6 +148,9 @@ pub record IsProgram (p : Program) : Type 0 where
   pub own_class : ¬ Contains prelude_classes p.class
   pub method : IsIdentifier p.method
   pub parameters : AreParameters p.parameters
-  pub left : IsOperand p.parameters p.ensures_.left
-  pub right : IsOperand p.parameters p.ensures_.right
-  pub value : IsValue p.parameters p.value
+  pub required : All (IsRequired p.parameters) p.requires_
+  pub some_ensured : 0 < length p.ensures_
+  pub ensured : All (IsEnsured p.parameters) p.ensures_
+  pub few_conditions : length p.requires_ + length p.ensures_ ≤ 100
+  pub body : AreStatements p.parameters p.body
+  pub few_statements : length p.body ≤ 100

@@ -1,16 +1,18 @@
-//! Files with one class, one static method and one postcondition, read exactly.
+//! Files with one class, one static method of assignments and its contract, read exactly.
 #![tactic(auto)]
 
 mod bytes;
+mod checks;
+mod grammar;
 mod names;
 mod numbers;
-mod outline;
 mod reader;
 mod syntax;
+mod words;
 
 pub use bytes::Java;
 pub use reader::{one_program, read_program};
-pub use syntax::{Comparison, Condition, Operand, Program};
+pub use syntax::{Comparison, Condition, Operand, Program, Statement};
 
 #[cfg(test)]
 mod tests;

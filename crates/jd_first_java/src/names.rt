@@ -1,4 +1,4 @@
-ghost use Rattle.std.specs.Prelude.{◌≡◌, ◌≢◌, ◌↔◌, IsTrue, IsOk, List, ℕ, map};
+ghost use Rattle.std.specs.Prelude.{◌≡◌, ◌≢◌, ◌↔◌, IsTrue, map};
 ghost use Rattle.std.specs.List.{All, AllPass, AllPairs, Contains};
 ghost use Rattle.jd_first_java.specs.Alphabet.{is_name_byte};
 ghost use Rattle.jd_first_java.specs.Programs.{IsIdentifier, AreParameters, reserved_words, prelude_classes};

@@ -15,14 +15,14 @@ pub enum Comparison {
     GreaterOrEqual,
 }
 
-/// What a condition compares and a method returns.
+/// What a condition compares, and what is assigned or returned.
 #[derive(Debug, Drop)]
 pub enum Operand {
-    /// A parameter, by its name.
-    Parameter(Vec<u8>),
+    /// A parameter or a local variable, by its name; in conditions a parameter.
+    Named(Vec<u8>),
     /// A literal, from 0 to 2147483647.
     Literal(u32),
-    /// `\result`, the value that the method returns; in conditions alone.
+    /// `\result`, the value that the method returns; in postconditions alone.
     Result,
 }
 
@@ -37,6 +37,17 @@ pub struct Condition {
     pub right: Operand,
 }
 
+/// A statement of the method's body.
+#[derive(Debug, Drop)]
+pub enum Statement {
+    /// `int x = e;` declares a local variable with its first value (JLS 14.4).
+    Declare(Vec<u8>, Operand),
+    /// `x = e;` assigns to a parameter or a local variable (JLS 15.26.1).
+    Assign(Vec<u8>, Operand),
+    /// `return e;` ends the method with its result (JLS 14.17).
+    Return(Operand),
+}
+
 /// A class with one static method from integers to an integer.
 #[derive(Debug, Drop)]
 pub struct Program {
@@ -46,8 +57,10 @@ pub struct Program {
     pub method: Vec<u8>,
     /// The names of its parameters, of type `int`, in their order.
     pub parameters: Vec<Vec<u8>>,
-    /// Its postcondition.
-    pub ensures_: Condition,
-    /// What it returns: a parameter or a literal.
-    pub value: Operand,
+    /// The conditions of its `requires` clause, which all have to hold; none without the clause.
+    pub requires_: Vec<Condition>,
+    /// The conditions of its `ensures` clause, which all have to hold; at least one.
+    pub ensures_: Vec<Condition>,
+    /// The statements of its body.
+    pub body: Vec<Statement>,
 }
