@@ -1,22 +1,22 @@
 -- Where the obligation of a program is closed by sound steps, each case of its meaning is kept.
-use Rattle.std.proofs.Common.{◌≡◌, ℕ, zero, suc, ◌<◌, false, Option, Some, None, List, [], ◌∷◌, ◌++◌, map, refl, sym, ◌∙◌, subst, arith}
+use Rattle.std.proofs.Common.{◌≡◌, ℕ, zero, suc, ◌<◌, false, Option, Some, None, List, [], ◌∷◌, ◌++◌, map, refl, sym, ◌∙◌, subst, append-nil, arith}
 use Rattle.std.specs.List.{All}
 use Rattle.std.proofs.lemmas.Bool.{le-leb}
 use Rattle.std.proofs.lemmas.Option.{none-some}
-use Rattle.std.proofs.lemmas.List.Elements.{All-head, All-tail}
+use Rattle.std.proofs.lemmas.List.Elements.{All-nil, All-cons, All-append, All-contains, All-head, All-tail}
 use Rattle.jd_base.specs.declared.sort.Sort.TheVariants.{Int as IntSort}
 use Rattle.jd_syntax.specs.CodeNames.{heap_name}
-use Rattle.jd_syntax.specs.Codes.{Return, Done, Then}
+use Rattle.jd_syntax.specs.Codes.{stmts_of}
 use Rattle.jd_term.specs.declared.formula.Modality.TheVariants.{Possibility}
 use Rattle.jd_term.specs.Terms.{NullTerm, Constant}
 use Rattle.jd_term.specs.Formulas.{Updated, Modal}
 use Rattle.jd_model.specs.Conjunctions.{conjunction}
 use Rattle.jd_model.specs.SpecialNames.{entry_heap, thrown_variable}
 use Rattle.jd_model.specs.Programs.{Body}
-use Rattle.jd_model.specs.Occurrences.{Always, CodeIn}
+use Rattle.jd_model.specs.Occurrences.{Always, ExprIn, CodeIn}
 use Rattle.jd_model.specs.Cases.{Case, SpecifiedProgram}
 use Rattle.jd_model.specs.KeptCases.{Kept}
-use Rattle.jd_model.specs.ResolvedBodies.{NotSpecial, IsResolvedCode, IsResolved, AllResolved}
+use Rattle.jd_model.specs.ResolvedBodies.{NotSpecial, IsResolvedExpr, IsResolvedCode, IsResolved, AllResolved}
 use Rattle.jd_sequent.specs.TaskMeaning.{StepIsSoundIn, StepIsSound}
 use Rattle.jd_oblig.specs.CaseObligations as obligations
 use Rattle.jd_oblig.specs.CaseObligations.{ObligationParts}
@@ -24,12 +24,12 @@ use Rattle.jd_oblig.specs.IdentityExample.{only_first}
 use Rattle.jd_oblig.specs.KeptByObligations.{IsMadeOfRow, IsReachability}
 use Rattle.jd_oblig.proofs.ClosedTasks.{every_closed_case_is_kept}
 use Rattle.jd_oblig.proofs.OneCase.{of_one, itself, onward}
-use Rattle.jd_first_java.specs.Programs.{IsIdentifier, Operand, Parameter, Literal, Result, IsValue, IsProgram, Program}
-use Rattle.jd_first_oblig.specs.Special.{parameter_variable}
-use Rattle.jd_first_oblig.specs.Obligations.{entry_members, value_expr, run_code, exit_members, parameter_pair, obligation_sequent, case_of, normal_members, exceptional_members, contracts_of}
+use Rattle.jd_first_java.specs.Programs.{IsIdentifier, Operand, Named, Literal, Result, Statement, Declare, Assign, ReturnValue, IsValue, AreStatements, IsProgram, Program}
+use Rattle.jd_first_oblig.specs.Special.{variable_of}
+use Rattle.jd_first_oblig.specs.Obligations.{entry_members, value_expr, statement_code, run_code, exit_members, parameter_pair, obligation_sequent, case_of, normal_members, exceptional_members, contracts_of}
 use Rattle.jd_first_meaning.specs.SpelledPrograms.{body_of_method, case_with, IsProgramOf}
 use Rattle.jd_first_meaning.specs.ClosedPrograms.{task_of, ClosedProgramsAreKept}
-use Rattle.jd_first_meaning.proofs.ParameterNames.{constant_of_variable, variables_not_special}
+use Rattle.jd_first_meaning.proofs.VariableNames.{constant_of_variable, variable_not_special, variables_not_special}
 use Rattle.jd_first_meaning.proofs.KnownContracts.{known_contract, known_case}
 use Rattle.jd_first_meaning.proofs.MadeTasks.{made_tasks_stand, tables_stand}
 
@@ -44,30 +44,46 @@ of_first f a e h P has n b found = of_one P a has n b (sym (one_only f a e h n) 
 
 -- ---- the body
 
-value_resolved : (ps : List (List ℕ)) (v : Operand) → IsValue ps v → IsResolvedCode [] (Then (Return (value_expr v)) Done)
-value_resolved ps (Parameter name) h = (tt, tt)
-value_resolved ps (Literal n) h = (le-leb n 2147483647 (omega (arith, h)), tt)
-value_resolved ps Result h = absurd h
+value_resolved : (scope : List (List ℕ)) (v : Operand) → IsValue scope v → IsResolvedExpr (value_expr v)
+value_resolved scope (Named name) h = tt
+value_resolved scope (Literal n) h = le-leb n 2147483647 (omega (arith, h))
+value_resolved scope Result h = absurd h
 
-value_assigns : (v : Operand) → CodeIn Always NotSpecial (Then (Return (value_expr v)) Done)
-value_assigns (Parameter name) = (tt, tt)
-value_assigns (Literal n) = (tt, tt)
-value_assigns Result = (tt, tt)
+statements_resolved : (scope : List (List ℕ)) (ss : List Statement) → AreStatements scope ss → IsResolvedCode [] (stmts_of (map statement_code ss))
+statements_resolved scope [] h = tt
+statements_resolved scope (Declare name e ∷ ss) h = (value_resolved scope e h.2, statements_resolved (scope ++ (name ∷ [])) ss h.3)
+statements_resolved scope (Assign name e ∷ ss) h = (value_resolved scope e h.1, statements_resolved scope ss h.2)
+statements_resolved scope (ReturnValue e ∷ ss) h = (value_resolved scope e h.0, statements_resolved scope ss h.1)
+
+value_reads : (v : Operand) → ExprIn Always NotSpecial (value_expr v)
+value_reads (Named name) = tt
+value_reads (Literal n) = tt
+value_reads Result = tt
+
+-- each variable that is assigned is one of names
+statements_assign : (scope : List (List ℕ)) → All IsIdentifier scope → (ss : List Statement) → AreStatements scope ss → CodeIn Always NotSpecial (stmts_of (map statement_code ss))
+statements_assign scope names [] h = tt
+statements_assign scope names (Declare name e ∷ ss) h =
+    let both = All-append IsIdentifier scope (name ∷ []) names (All-cons IsIdentifier name [] h.0 (All-nil IsIdentifier)) in
+    ((variable_not_special name h.0.bytes, value_reads e), statements_assign (scope ++ (name ∷ [])) both ss h.3)
+statements_assign scope names (Assign name e ∷ ss) h =
+    ((variable_not_special name (All-contains IsIdentifier scope name names h.0).bytes, value_reads e), statements_assign scope names ss h.2)
+statements_assign scope names (ReturnValue e ∷ ss) h = (value_reads e, statements_assign scope names ss h.1)
 
 body_resolved : (q : Program) → IsProgram q → IsResolved (body_of_method q)
 body_resolved q ok = record {
-  code = value_resolved q.parameters q.value ok.value;
-  assigned = value_assigns q.value;
+  code = statements_resolved q.parameters q.body ok.body;
+  assigned = statements_assign q.parameters ok.parameters.names q.body ok.body;
   receiver = tt;
   parameters = variables_not_special q.parameters ok.parameters.names;
 }
 
 -- ---- the sequent
 
-pairs_made : (ps : List (List ℕ)) → All IsIdentifier ps → map parameter_pair ps ≡ map obligations.parameter_pair (map parameter_variable ps)
+pairs_made : (ps : List (List ℕ)) → All IsIdentifier ps → map parameter_pair ps ≡ map obligations.parameter_pair (map variable_of ps)
 pairs_made [] h = refl
 pairs_made (x ∷ xs) h = λ i.
-    (parameter_variable x, Constant (sym (constant_of_variable x (All-head IsIdentifier x xs h).bytes) i))
+    (variable_of x, Constant (sym (constant_of_variable x (All-head IsIdentifier x xs h).bytes) i))
     ∷ pairs_made xs (All-tail IsIdentifier x xs h) i
 
 abbrev parts_of : Program → ObligationParts
@@ -86,7 +102,7 @@ sequent_made q ok = λ i. record {
 
 module _ (q : Program) (ok : IsProgram q) (p : SpecifiedProgram) (is : IsProgramOf q p) where
   abbrev the_case : Case
-  the_case = case_with (known_contract q (known_case q p is).clauses)
+  the_case = case_with (known_contract q (known_case q p is).required (known_case q p is).ensured)
 
   -- what holds of the one case, and of the one body, holds of each
   each_case : (P : ℕ → Case → Type 0) → P 0 the_case → (κ : ℕ) (c : Case) → p.case κ ≡ Some c → P κ c
@@ -112,7 +128,7 @@ module _ (q : Program) (ok : IsProgram q) (p : SpecifiedProgram) (is : IsProgram
     parts = parts_of q;
     found = refl;
     sequent = each_body (λ b. obligation_sequent q ≡ obligations.obligation_sequent (case_of q) b (parts_of q)) (sequent_made q ok) 0;
-    normal = refl;
+    normal = sym (append-nil (normal_members q));
     exceptional = refl;
     result = refl;
     result_of_body = each_body (λ b. IntSort ≡ b.result) refl 0;

@@ -1,4 +1,4 @@
-mod ParameterNames
+mod VariableNames
 mod Comparisons
 mod Operands
 mod KnownContracts

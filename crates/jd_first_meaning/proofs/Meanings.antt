@@ -1,13 +1,12 @@
 -- Each program has a meaning.
-use Rattle.std.proofs.Common.{nat_eq, false, None, [], ◌∷◌, refl}
+use Rattle.std.proofs.Common.{nat_eq, false, None, [], refl}
 use Rattle.jd_model.specs.Programs.{IntType}
 use Rattle.jd_model.specs.Cases.{SpecifiedProgram}
 use Rattle.jd_oblig.specs.IdentityExample.{only_first}
 use Rattle.jd_first_java.specs.Programs.{IsProgram, Program}
-use Rattle.jd_first_oblig.specs.Obligations.{condition_formula}
 use Rattle.jd_first_meaning.specs.SpelledPrograms.{superclasses_of, body_of_method, case_with, HasClasses, IsContractOf, IsProgramOf}
 use Rattle.jd_first_meaning.specs.ClosedPrograms.{EachProgramHasMeaning}
-use Rattle.jd_first_meaning.proofs.KnownContracts.{known_contract, condition_ensures}
+use Rattle.jd_first_meaning.proofs.KnownContracts.{made_contract, made_clauses}
 
 module _ (q : Program) where
   abbrev meaning : SpecifiedProgram
@@ -29,7 +28,7 @@ module _ (q : Program) where
       };
       invariants = λ c. [];
     };
-    case = only_first (case_with (known_contract q (condition_formula q.ensures_ ∷ [])));
+    case = only_first (case_with (made_contract q));
     families = 1;
     reaches = nat_eq;
   }
@@ -48,14 +47,14 @@ module _ (q : Program) where
     no_lookup = λ c m. refl;
   }
 
-  its_contract : IsProgram q → IsContractOf q (known_contract q (condition_formula q.ensures_ ∷ []))
+  its_contract : IsProgram q → IsContractOf q (made_contract q)
   its_contract is = record {
     role = refl;
     parameters = refl;
     result = refl;
     behaviour = refl;
-    requires_ = refl;
-    ensures_ = condition_ensures q is;
+    requires_ = (made_clauses q is).required;
+    ensures_ = (made_clauses q is).ensured;
     signals = refl;
     signals_only = refl;
     assignable = refl;
@@ -69,7 +68,7 @@ module _ (q : Program) where
     invariants = λ c. refl;
     the_body = refl;
     no_other_body = λ m. refl;
-    contract = known_contract q (condition_formula q.ensures_ ∷ []);
+    contract = made_contract q;
     is_contract = its_contract is;
     the_case = refl;
     no_other_case = λ κ. refl;

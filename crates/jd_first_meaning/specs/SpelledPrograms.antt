@@ -1,5 +1,6 @@
 -- What a file of the first form says, as a program with its contract: apart from how the file is read, and from the formulas that are made of it.
 use Rattle.std.specs.Prelude.{◌≡◌, ◌↔◌, ℕ, suc, nat_eq, Bool, true, false, not, ℤ, pos, int_lt, int_le, if◌then◌else◌, List, [], ◌∷◌, map, slice_get, Some, None}
+use Rattle.std.specs.List.{list_all}
 use Rattle.std.specs.Option.{unwrap_or}
 use Rattle.std.specs.Str.{bytes_eq}
 use Rattle.jd_base.specs.declared.sort.Sort.TheVariants.{Int as IntSort}
@@ -13,9 +14,9 @@ use Rattle.jd_model.specs.Cases.{DeclaredType, Parameter as ContractParameter, S
 use Rattle.jd_model.specs.EntryExit.{Moment, AllHold}
 use Rattle.jd_first_java.specs.declared.syntax.Comparison.{Comparison}
 use Rattle.jd_first_java.specs.declared.syntax.Comparison.TheVariants.{Equal, NotEqual, Less, LessOrEqual, Greater, GreaterOrEqual}
-use Rattle.jd_first_java.specs.Programs.{Operand, Parameter, Literal, Result, Program}
+use Rattle.jd_first_java.specs.Programs.{Operand, Named, Literal, Result, Condition, Program}
 use Rattle.jd_first_java.specs.Reads.{Reads}
-use Rattle.jd_first_oblig.specs.Special.{parameter_variable, parameter_constant}
+use Rattle.jd_first_oblig.specs.Special.{variable_of, parameter_constant}
 use Rattle.jd_first_oblig.specs.Obligations.{body_code, class_number, method_number, case_number}
 
 -- ---- the classes: ten that are there before the file is read, and the file's own, which extends Object (JLS 8.1.4, 11.1)
@@ -54,7 +55,7 @@ pub record HasClasses (p : model.Program) : Type 0 where
   pub no_field : (c f : ℕ) → p.has_field c f ≡ false
   pub no_lookup : (c m : ℕ) → p.lookup c m ≡ None
 
--- ---- the postcondition, of integers (JML Reference Manual, 9.9.2 and 12.4.1; JLS 15.20.1 and 15.21.1)
+-- ---- the conditions, of integers (JML Reference Manual, 9.9.1, 9.9.2 and 12.4.1; JLS 15.20.1, 15.21.1 and 15.23)
 
 abbrev pub compare : Comparison → ℤ → ℤ → Bool
 compare Equal x y = int_same x y
@@ -71,15 +72,22 @@ argument_of xs vs name = pos 0
 
 -- an argument, the literal itself or what the method returned
 abbrev pub operand_value : List (List ℕ) → Moment → Operand → ℤ
-operand_value parameters m (Parameter name) = argument_of parameters m.arguments name
+operand_value parameters m (Named name) = argument_of parameters m.arguments name
 operand_value parameters m (Literal n) = pos n
 operand_value parameters m Result = as_int m.result
 
-abbrev pub is_ensured : Program → Moment → Bool
-is_ensured q m = compare q.ensures_.comparison (operand_value q.parameters m q.ensures_.left) (operand_value q.parameters m q.ensures_.right)
+abbrev pub is_met : List (List ℕ) → Moment → Condition → Bool
+is_met parameters m c = compare c.comparison (operand_value parameters m c.left) (operand_value parameters m c.right)
 
--- ---- the contract: its one clause. As no other is written, each end is allowed, each location may be assigned, and the run has to
--- end (JML Reference Manual, 9.9; no `throws` is read, so that none narrows what may be thrown)
+-- each condition of the clause is met; where no `requires` is written, there is none
+abbrev pub is_required : Program → Moment → Bool
+is_required q m = list_all (is_met q.parameters m) q.requires_
+
+abbrev pub is_ensured : Program → Moment → Bool
+is_ensured q m = list_all (is_met q.parameters m) q.ensures_
+
+-- ---- the contract: its clauses `requires` and `ensures`. As no other is written, each end is allowed, each location may be assigned,
+-- and the run has to end (JML Reference Manual, 9.9; no `throws` is read, so that none narrows what may be thrown)
 
 abbrev pub an_int : DeclaredType
 an_int = record { type = IntType; nullable = false }
@@ -92,8 +100,8 @@ pub record IsContractOf (q : Program) (c : Contract) : Type 0 where
   pub parameters : c.parameters ≡ map int_parameter q.parameters
   pub result : c.result ≡ Some an_int
   pub behaviour : c.behaviour ≡ AnyEnd
-  pub requires_ : c.requires_ ≡ []
-  -- in each setting and at each moment the clauses hold where the comparison is true
+  -- in each setting and at each moment the clauses hold where each of their comparisons is true
+  pub requires_ : (g : Setting) (m : Moment) → AllHold g c m c.requires_ ↔ (is_required q m ≡ true)
   pub ensures_ : (g : Setting) (m : Moment) → AllHold g c m c.ensures_ ↔ (is_ensured q m ≡ true)
   pub signals : c.signals ≡ []
   pub signals_only : c.signals_only ≡ []
@@ -101,10 +109,10 @@ pub record IsContractOf (q : Program) (c : Contract) : Type 0 where
   pub measure : c.measure ≡ Number (pos 0)
   pub diverges : c.diverges ≡ false
 
--- ---- the method: its parameters, and the one statement of its body
+-- ---- the method: its parameters, and the statements of its body
 
 abbrev pub body_of_method : Program → Body
-body_of_method q = record { receiver = None; parameters = map parameter_variable q.parameters; result = IntSort; code = body_code q }
+body_of_method q = record { receiver = None; parameters = map variable_of q.parameters; result = IntSort; code = body_code q }
 
 abbrev pub case_with : Contract → Case
 case_with c = record { contract = c; class = class_number; method = method_number; number = case_number; body = 0; family = 0 }

@@ -1,1 +1,2 @@
 pub mod Conjunctions
+pub mod Literals

@@ -1,12 +1,12 @@
-ghost use Rattle.std.specs.Prelude.{◌≡◌, ◌++◌, ◌∷◌, [], IfOk, map};
+ghost use Rattle.std.specs.Prelude.{◌≡◌, ◌++◌, ◌∷◌, [], IfOk, OnOk, map};
 ghost use Rattle.jd_term.specs.TermViews.{term_view};
 ghost use Rattle.jd_term.specs.Formulas.{formula_view};
 ghost use Rattle.jd_first_java.specs.Reads.{operand_view, condition_view, program_view};
-ghost use Rattle.jd_first_oblig.specs.Obligations.{operand_term, comparison_formula, condition_formula, in_range, entry_conditions, case_measure, entry_members, normal_members, exceptional_members, exit_members, none_thrown, created_thrown};
+ghost use Rattle.jd_first_oblig.specs.Obligations.{operand_term, comparison_formula, condition_formula, clause_formula, clause_members, in_range, entry_conditions, case_measure, entry_members, normal_members, exceptional_members, exit_members, none_thrown, created_thrown};
 ghost use Rattle.jd_model.specs.Conjunctions.{conjunction};
 
 use crate::names::{constant_of, heap, heap_at_entry, measure_at_entry, result, thrown};
-use crate::parts::{boxed_term, conjoined, implied, negated};
+use crate::parts::{both, boxed_term, conjoined, implied, negated};
 use jd_base::{ClassId, NoMemory, Sort};
 use jd_first_java::{Comparison, Condition, Operand, Program};
 use jd_syntax::Kind;
@@ -17,7 +17,7 @@ fn operand(alloc: Global, operand: &Operand) -> Result<Term, NoMemory>
     ensures { IfOk result (λ t. term_view t ≡ operand_term (operand_view operand.now)) }
 {
     match operand {
-        Operand::Parameter(name) => Ok(Term::Constant(constant_of(alloc, name)?)),
+        Operand::Named(name) => Ok(Term::Constant(constant_of(alloc, name)?)),
         Operand::Literal(number) => Ok(Term::Number(i128::from(*number))),
         Operand::Result => Ok(Term::ProgramVariable(result(alloc)?)),
     }
@@ -50,6 +50,36 @@ fn condition(alloc: Global, condition: &Condition) -> Result<Formula, NoMemory>
     compared(alloc, condition.comparison, left, right)
 }
 
+// The conditions of a clause, joined from the left.
+fn clause(alloc: Global, first: &Condition, further: &[Condition]) -> Result<Formula, NoMemory>
+    ensures { IfOk result
+        (λ f. formula_view f ≡ clause_formula (condition_view first.now) (map condition_view further.now)) }
+{
+    let mut whole = condition(alloc, first)?;
+    for next in further {
+        let formula = condition(alloc, next)?;
+        whole = both(alloc, whole, formula)?;
+    }
+    Ok(whole)
+}
+
+// Adds a clause's member, where the clause is written.
+fn add_clause(
+    alloc: Global,
+    members: &mut Vec<Formula>,
+    conditions: &[Condition],
+) -> Result<(), NoMemory>
+    ensures { OnOk result
+        (map formula_view members.new.items ≡ map formula_view members.old.items ++ clause_members (map condition_view conditions.now)) }
+{
+    let Some((first, further)) = conditions.split_first() else {
+        return Ok(())
+    };
+    let formula = clause(alloc, first, further)?;
+    members.push(formula)?;
+    Ok(())
+}
+
 fn in_range_of(alloc: Global, name: &[u8]) -> Result<Formula, NoMemory>
     ensures { IfOk result (λ f. formula_view f ≡ in_range name.now) }
 {
@@ -65,6 +95,7 @@ pub fn entry_conditions(alloc: Global, program: &Program) -> Result<Vec<Formula>
     for name in &program.parameters {
         members.push(in_range_of(alloc, name)?)?;
     }
+    add_clause(alloc, &mut members, &program.requires_)?;
     Ok(members)
 }
 
@@ -91,7 +122,7 @@ pub fn normal_members(alloc: Global, program: &Program) -> Result<Vec<Formula>, 
 {
     let mut members = Vec::new(alloc);
     members.push(Formula::InInt(Term::ProgramVariable(result(alloc)?)))?;
-    members.push(condition(alloc, &program.ensures_)?)?;
+    add_clause(alloc, &mut members, &program.ensures_)?;
     Ok(members)
 }
 

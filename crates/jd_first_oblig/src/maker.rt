@@ -1,23 +1,23 @@
-ghost use Rattle.std.specs.Prelude.{◌≡◌, ◌++◌, ◌∷◌, [], IfOk, map};
+ghost use Rattle.std.specs.Prelude.{◌≡◌, ◌++◌, ◌∷◌, [], IfOk, OnOk, map};
 ghost use Rattle.jd_syntax.specs.Names.{decl_view, const_decl_view};
-ghost use Rattle.jd_syntax.specs.CodeViews.{expr_view, code_view};
+ghost use Rattle.jd_syntax.specs.CodeViews.{expr_view, stmt_view, code_view};
 ghost use Rattle.jd_term.specs.TermViews.{const_view};
 ghost use Rattle.jd_term.specs.Formulas.{update_view};
 ghost use Rattle.jd_model.specs.Sequents.{sequent_view};
 ghost use Rattle.jd_sequent.specs.Obligations.{obligation_view};
-ghost use Rattle.jd_first_java.specs.Reads.{operand_view, program_view};
+ghost use Rattle.jd_first_java.specs.Reads.{operand_view, statement_view, program_view};
 ghost use Rattle.jd_first_oblig.specs.Special.{parameter_constant};
 ghost use Rattle.jd_model.specs.SpecialNames.{entry_heap, entry_measure, receiver};
-ghost use Rattle.jd_first_oblig.specs.Obligations.{IsLiteralInRange, value_expr, body_code, framed_code, run_code, start_pairs, obligation_sequent, obligation_name, declared_parameters, obligation_of};
+ghost use Rattle.jd_first_oblig.specs.Obligations.{IsLiteralInRange, AreLiteralsInRange, value_of, value_expr, statement_code, body_code, framed_code, run_code, start_pairs, obligation_sequent, obligation_name, locals_of, declared_variable, declared_variables, obligation_of};
 
 use crate::contract::{entry, exit};
 use crate::names::{
     CASE, CLASS, METHOD, constant_of, heap, heap_at_entry, measure_at_entry, result, this_receiver,
     thrown, variable_of,
 };
-use crate::parts::{alone, boxed, no_statement};
+use crate::parts::{alone, boxed, in_order, no_statement};
 use jd_base::{ConstDecl, NoMemory, copy_bytes};
-use jd_first_java::{Operand, Program};
+use jd_first_java::{Operand, Program, Statement};
 use jd_model::Sequent;
 use jd_sequent::Obligation;
 use jd_syntax::{Code, CodeExpr, CodeStmt, VarDecl};
@@ -29,24 +29,40 @@ fn value(alloc: Global, operand: &Operand) -> Result<CodeExpr, NoMemory>
     ensures { IfOk result (λ e. expr_view e ≡ value_expr (operand_view operand.now)) }
 {
     match operand {
-        Operand::Parameter(name) => Ok(CodeExpr::Variable(variable_of(alloc, name)?)),
+        Operand::Named(name) => Ok(CodeExpr::Variable(variable_of(alloc, name)?)),
         Operand::Literal(number) => Ok(CodeExpr::IntLiteral(*number as i32)),
         Operand::Result => Ok(CodeExpr::Variable(result(alloc)?)),
     }
 }
 
+fn code_of(alloc: Global, statement: &Statement) -> Result<CodeStmt, NoMemory>
+    requires { IsLiteralInRange (value_of (statement_view statement.now)) }
+    ensures { IfOk result (λ s. stmt_view s ≡ statement_code (statement_view statement.now)) }
+{
+    match statement {
+        Statement::Declare(name, operand) | Statement::Assign(name, operand) => {
+            let variable = variable_of(alloc, name)?;
+            Ok(CodeStmt::Set(variable, value(alloc, operand)?))
+        }
+        Statement::Return(operand) => Ok(CodeStmt::Return(value(alloc, operand)?)),
+    }
+}
+
 /// The method's body.
 pub fn body(alloc: Global, program: &Program) -> Result<Code, NoMemory>
-    requires { IsLiteralInRange (operand_view program.now.value) }
+    requires { AreLiteralsInRange (program_view program.now).body }
     ensures { IfOk result (λ c. code_view c ≡ body_code (program_view program.now)) }
 {
-    let value = value(alloc, &program.value)?;
-    alone(alloc, CodeStmt::Return(value))
+    let mut stmts = Vec::new(alloc);
+    for statement in &program.body {
+        stmts.push(code_of(alloc, statement)?)?;
+    }
+    Ok(in_order(stmts))
 }
 
 // The body in a frame for its result.
 fn framed(alloc: Global, program: &Program) -> Result<Code, NoMemory>
-    requires { IsLiteralInRange (operand_view program.now.value) }
+    requires { AreLiteralsInRange (program_view program.now).body }
     ensures { IfOk result (λ c. code_view c ≡ framed_code (program_view program.now)) }
 {
     let body = body(alloc, program)?;
@@ -56,7 +72,7 @@ fn framed(alloc: Global, program: &Program) -> Result<Code, NoMemory>
 
 // The frame in a catch for what it throws.
 fn run(alloc: Global, program: &Program) -> Result<Code, NoMemory>
-    requires { IsLiteralInRange (operand_view program.now.value) }
+    requires { AreLiteralsInRange (program_view program.now).body }
     ensures { IfOk result (λ c. code_view c ≡ run_code (program_view program.now)) }
 {
     let frame = framed(alloc, program)?;
@@ -87,7 +103,7 @@ fn start(alloc: Global, program: &Program) -> Result<Update, NoMemory>
 }
 
 fn sequent(alloc: Global, program: &Program) -> Result<Sequent, NoMemory>
-    requires { IsLiteralInRange (operand_view program.now.value) }
+    requires { AreLiteralsInRange (program_view program.now).body }
     ensures { IfOk result (λ s. sequent_view s ≡ obligation_sequent (program_view program.now)) }
 {
     let mut left = Vec::new(alloc);
@@ -112,19 +128,48 @@ pub fn name_of(alloc: Global, program: &Program) -> Result<Vec<u8>, NoMemory>
     Ok(name)
 }
 
-/// The declarations of the parameters.
-pub fn declared(alloc: Global, program: &Program) -> Result<Vec<VarDecl>, NoMemory>
+fn declared_as(alloc: Global, name: &[u8]) -> Result<VarDecl, NoMemory>
+    ensures { IfOk result (λ v. decl_view v ≡ declared_variable name.now) }
+{
+    let variable = variable_of(alloc, name)?;
+    Ok(VarDecl {
+        name: variable.name,
+        sort: variable.sort,
+        class: None,
+    })
+}
+
+// Adds the local variable that the statement declares.
+fn add_local(alloc: Global, vars: &mut Vec<VarDecl>, statement: &Statement) -> Result<(), NoMemory>
+    ensures { OnOk result
+        (map decl_view vars.new.items ≡ map decl_view vars.old.items ++ map declared_variable (locals_of (statement_view statement.now ∷ []))) }
+{
+    if let Statement::Declare(name, _) = statement {
+        vars.push(declared_as(alloc, name)?)?;
+    }
+    Ok(())
+}
+
+// The declarations of the parameters.
+fn parameters(alloc: Global, program: &Program) -> Result<Vec<VarDecl>, NoMemory>
     ensures { IfOk result
-        (λ v. map decl_view v.items ≡ declared_parameters (program_view program.now)) }
+        (λ v. map decl_view v.items ≡ map declared_variable (program_view program.now).parameters) }
 {
     let mut vars = Vec::new(alloc);
     for name in &program.parameters {
-        let variable = variable_of(alloc, name)?;
-        vars.push(VarDecl {
-            name: variable.name,
-            sort: variable.sort,
-            class: None,
-        })?;
+        vars.push(declared_as(alloc, name)?)?;
+    }
+    Ok(vars)
+}
+
+/// The declarations of the parameters, and of the local variables behind them.
+pub fn declared(alloc: Global, program: &Program) -> Result<Vec<VarDecl>, NoMemory>
+    ensures { IfOk result
+        (λ v. map decl_view v.items ≡ declared_variables (program_view program.now)) }
+{
+    let mut vars = parameters(alloc, program)?;
+    for statement in &program.body {
+        add_local(alloc, &mut vars, statement)?;
     }
     Ok(vars)
 }
@@ -155,7 +200,7 @@ fn constants(alloc: Global, program: &Program) -> Result<Vec<ConstDecl>, NoMemor
 /// The obligation of a program: from each entry state of its method's one case, the run ends and
 /// the exit's formulas hold.
 pub fn obligation(alloc: Global, program: &Program) -> Result<Obligation, NoMemory>
-    requires { IsLiteralInRange (operand_view program.now.value) }
+    requires { AreLiteralsInRange (program_view program.now).body }
     ensures { IfOk result (λ o. obligation_view o ≡ obligation_of (program_view program.now)) }
 {
     let name = name_of(alloc, program)?;

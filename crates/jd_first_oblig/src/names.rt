@@ -1,7 +1,7 @@
 ghost use Rattle.std.specs.Prelude.{◌≡◌, ◌++◌, IfOk};
 ghost use Rattle.jd_syntax.specs.Names.{var_view};
 ghost use Rattle.jd_term.specs.TermViews.{const_view};
-ghost use Rattle.jd_first_oblig.specs.Special.{printed_name, parameter_variable, parameter_constant};
+ghost use Rattle.jd_first_oblig.specs.Special.{printed_name, variable_of, parameter_constant};
 ghost use Rattle.jd_model.specs.SpecialNames.{int_result, thrown_variable, entry_heap, entry_measure, receiver};
 ghost use Rattle.jd_syntax.specs.CodeNames.{heap_name};
 
@@ -77,9 +77,9 @@ fn printed(alloc: Global, name: &[u8]) -> Result<Vec<u8>, NoMemory>
     }
 }
 
-/// The variable of a parameter.
+/// The variable of a parameter or a local.
 pub fn variable_of(alloc: Global, name: &[u8]) -> Result<VarId, NoMemory>
-    ensures { IfOk result (λ v. var_view v ≡ parameter_variable name.now) }
+    ensures { IfOk result (λ v. var_view v ≡ variable_of name.now) }
 {
     let name = printed(alloc, name)?;
     let sort = Sort::Int;

@@ -1,6 +1,6 @@
 ghost use Rattle.std.specs.Prelude.{◌≡◌, true, ◌∷◌, [], IfOk, map};
 ghost use Rattle.jd_base.specs.declared.sort.Sort.TheVariants.{Bool as BoolSort};
-ghost use Rattle.jd_syntax.specs.Codes.{OfClass, Then, Done};
+ghost use Rattle.jd_syntax.specs.Codes.{OfClass, Then, Done, stmts_of};
 ghost use Rattle.jd_syntax.specs.CodeViews.{stmt_view, code_view};
 ghost use Rattle.jd_syntax.specs.Names.{var_view};
 ghost use Rattle.jd_term.specs.Terms.{ProgramVariable, Select, CreatedField, Boolean};
@@ -64,6 +64,13 @@ pub fn alone(alloc: Global, stmt: CodeStmt) -> Result<Code, NoMemory>
     let mut stmts = Vec::new(alloc);
     stmts.push(stmt)?;
     Ok(Code { stmts })
+}
+
+/// The code of statements in their order.
+pub fn in_order(stmts: Vec<CodeStmt>) -> Code
+    ensures { code_view result ≡ stmts_of (map stmt_view stmts.items) }
+{
+    Code { stmts }
 }
 
 /// The code of no statement.

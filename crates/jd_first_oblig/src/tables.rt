@@ -1,7 +1,7 @@
-ghost use Rattle.std.specs.Prelude.{◌≡◌, ◌∷◌, [], IfOk, length};
+ghost use Rattle.std.specs.Prelude.{◌≡◌, ◌∷◌, [], IfOk};
 ghost use Rattle.jd_model.specs.ContractForms.{case_view, body_view, contracts_view};
-ghost use Rattle.jd_first_java.specs.Reads.{operand_view, program_view};
-ghost use Rattle.jd_first_oblig.specs.Obligations.{IsLiteralInRange, case_of, body_of, contracts_of};
+ghost use Rattle.jd_first_java.specs.Reads.{program_view};
+ghost use Rattle.jd_first_oblig.specs.Obligations.{AreLiteralsInRange, case_of, body_of, contracts_of};
 
 use crate::contract::{case_measure, entry_conditions, exceptional_members, normal_members};
 use crate::maker::{body, declared};
@@ -32,11 +32,11 @@ fn case(alloc: Global, program: &Program) -> Result<CaseForm, NoMemory>
     })
 }
 
-// How many parameters there are. No memory holds more variables than 32 bits can count.
-fn count_of(parameters: &[Vec<u8>]) -> Result<u32, NoMemory>
-    ensures { IfOk result (λ n. n ≡ length parameters.now) }
+// A number of variables. No memory holds more than 32 bits can count.
+fn count_of(variables: usize) -> Result<u32, NoMemory>
+    ensures { IfOk result (λ n. n ≡ variables) }
 {
-    match u32::try_from(parameters.len()) {
+    match u32::try_from(variables) {
         Ok(count) => Ok(count),
         Err(_) => Err(NoMemory),
     }
@@ -44,11 +44,11 @@ fn count_of(parameters: &[Vec<u8>]) -> Result<u32, NoMemory>
 
 // The method's body with its variables.
 fn body_form(alloc: Global, program: &Program) -> Result<BodyForm, NoMemory>
-    requires { IsLiteralInRange (operand_view program.now.value) }
+    requires { AreLiteralsInRange (program_view program.now).body }
     ensures { IfOk result (λ b. body_view b ≡ body_of (program_view program.now)) }
 {
-    let params = count_of(&program.parameters)?;
     let vars = declared(alloc, program)?;
+    let params = count_of(program.parameters.len())?;
     let code = body(alloc, program)?;
     Ok(BodyForm {
         method: METHOD,
@@ -61,7 +61,7 @@ fn body_form(alloc: Global, program: &Program) -> Result<BodyForm, NoMemory>
 
 /// The tables of a program: its method's one case and its body. The class has no invariants.
 pub fn contracts(alloc: Global, program: &Program) -> Result<Contracts, NoMemory>
-    requires { IsLiteralInRange (operand_view program.now.value) }
+    requires { AreLiteralsInRange (program_view program.now).body }
     ensures { IfOk result (λ c. contracts_view c ≡ contracts_of (program_view program.now)) }
 {
     let mut cases = Vec::new(alloc);

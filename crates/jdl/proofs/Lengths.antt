@@ -1,9 +1,9 @@
 -- How long reports are.
-use Rattle.std.proofs.Common.{◌≤◌, ◌+◌, ◌*◌, ◌/◌, ◌%◌, ℕ, zero, suc, Bool, true, false, cond, List, [], ◌∷◌, length, ap, subst, arith, length-append}
+use Rattle.std.proofs.Common.{◌≤◌, ◌+◌, ◌*◌, ◌/◌, ◌%◌, ℕ, zero, suc, Bool, true, false, cond, List, [], ◌∷◌, ◌++◌, codes, length, ap, subst, arith, length-append}
 use Rattle.std.specs.Prelude.{◌==◌}
 use Rattle.std.specs.List.{All}
 use Rattle.std.specs.Fmt.{decimal, digits, digits_onto, digit_glyph}
-use Rattle.std.proofs.lemmas.List.Elements.{All-cons, All-get_or, All-map}
+use Rattle.std.proofs.lemmas.List.Elements.{All-cons, All-get_or, All-map, All-tail}
 use Rattle.jd_lexemes.specs.Lexemes.{Lexeme, Spells}
 use Rattle.jd_lexemes.specs.declared.alphabet.Class.{Class}
 use Rattle.jd_model.specs.Sequents.{PlainSequent}
@@ -13,7 +13,7 @@ use Rattle.jd_sequent.specs.declared.bad.Bad.TheVariants.{UnknownRule, NoFormula
 use Rattle.jd_replay.specs.declared.verdict.Cause.{Cause}
 use Rattle.jd_replay.specs.declared.verdict.Cause.TheVariants.{Rule, BranchCount}
 use Rattle.jd_first_java.specs.Alphabet.{java_class}
-use Rattle.jd_first_java.specs.Programs.{Program, written}
+use Rattle.jd_first_java.specs.Programs.{Condition, Program, operand_text, comparison_text, condition_texts, further_conditions, clause_texts, parameter_list, body_texts, written}
 use Rattle.jd_first_java.specs.Reads as java
 use Rattle.jd_first_script.specs.Scripts.{PlainScript}
 use Rattle.jd_first_oblig.specs.Obligations.{obligation_name}
@@ -75,11 +75,49 @@ spelled_within class (l ∷ ls) at bytes m few s =
     let parts = simp length-append at (ap length s.2) in
     All-cons (λ l. length l.text ≤ m) l ls (omega arith) (spelled_within class ls (l.at + length l.text) s.1 m (omega arith) s.6)
 
+-- ---- where the method's name stands: behind the clauses
+
+abbrev method_texts : Program → List (List ℕ)
+method_texts q =
+    codes "@*/" ∷ codes "static" ∷ codes "int" ∷ q.method ∷ codes "("
+    ∷ (parameter_list q.parameters
+    ++ (codes ")" ∷ codes "{" ∷ body_texts q.body (codes "}" ∷ codes "}" ∷ [])))
+
+abbrev contract_texts : Program → List (List ℕ)
+contract_texts q = clause_texts (codes "requires") q.requires_ (clause_texts (codes "ensures") q.ensures_ (method_texts q))
+
+module _ (P : List ℕ → Type 0) where
+  behind_condition : (c : Condition) (rest : List (List ℕ)) → All P (condition_texts c rest) → All P rest
+  behind_condition c rest h =
+      All-tail P (operand_text c.right) rest
+      (All-tail P (comparison_text c.comparison) (operand_text c.right ∷ rest)
+      (All-tail P (operand_text c.left) (comparison_text c.comparison ∷ operand_text c.right ∷ rest) h))
+
+  behind_conditions : (cs : List Condition) (rest : List (List ℕ)) → All P (further_conditions cs rest) → All P rest
+  behind_conditions [] rest h = All-tail P (codes ";") rest h
+  behind_conditions (c ∷ cs) rest h =
+      behind_conditions cs rest (behind_condition c (further_conditions cs rest) (All-tail P (codes "&&") (condition_texts c (further_conditions cs rest)) h))
+
+  behind_clause : (word : List ℕ) (cs : List Condition) (rest : List (List ℕ)) → All P (clause_texts word cs rest) → All P rest
+  behind_clause word [] rest h = h
+  behind_clause word (c ∷ cs) rest h =
+      behind_conditions cs rest (behind_condition c (further_conditions cs rest) (All-tail P word (condition_texts c (further_conditions cs rest)) h))
+
+  of_method : (q : Program) → All P (written q) → P q.method
+  of_method q h =
+      let contract =
+      All-tail P (codes "/*@") (contract_texts q)
+      (All-tail P (codes "{") (codes "/*@" ∷ contract_texts q)
+      (All-tail P q.class (codes "{" ∷ codes "/*@" ∷ contract_texts q)
+      (All-tail P (codes "class") (q.class ∷ codes "{" ∷ codes "/*@" ∷ contract_texts q) h))) in
+      let ensured = behind_clause (codes "requires") q.requires_ (clause_texts (codes "ensures") q.ensures_ (method_texts q)) contract in
+      All-get_or P (method_texts q) 3 [] (omega arith) (behind_clause (codes "ensures") q.ensures_ (method_texts q) ensured)
+
 -- the name of an obligation is short against the file
 pub length-name : (bytes : List ℕ) (q : Program) → java.Reads bytes q → length (obligation_name q) ≤ 2 * length bytes + 4
 length-name bytes q reads =
     let lexemes = spelled_within java_class reads.lexemes 0 bytes (length bytes) (omega arith) reads.spelled in
     let texts = subst (λ ts. All (λ t. length t ≤ length bytes) ts) reads.form (All-map (λ t. length t ≤ length bytes) (λ l. l.text) reads.lexemes lexemes) in
     let class : length q.class ≤ length bytes = All-get_or (λ t. length t ≤ length bytes) (written q) 1 [] (omega arith) texts in
-    let method : length q.method ≤ length bytes = All-get_or (λ t. length t ≤ length bytes) (written q) 12 [] (omega arith) texts in
+    let method : length q.method ≤ length bytes = of_method (λ t. length t ≤ length bytes) q texts in
     simp length-append (omega arith)

@@ -1,6 +1,7 @@
 pub mod Derivations
 pub mod Judged
 pub mod Lengths
+pub mod Literals
 pub mod Outcomes
 pub mod Reading
 pub mod Replays

@@ -7,16 +7,10 @@ use Rattle.jd_sequent.specs.Obligations.{PlainObligation, PlainTask}
 use Rattle.jd_sequent.specs.Rules.{LeadsWithinLimits}
 use Rattle.jd_replay.specs.Verdicts.{IsVerdict}
 use Rattle.jd_replay.specs.declared.verdict.Verdict.{Verdict}
-use Rattle.jd_first_java.specs.Programs.{Program, IsValue, Operand, Parameter, Literal, Result}
-use Rattle.jd_first_oblig.specs.Obligations.{obligation_sequent, obligation_of, contracts_of, IsLiteralInRange}
+use Rattle.jd_first_java.specs.Programs.{Program}
+use Rattle.jd_first_oblig.specs.Obligations.{obligation_sequent, obligation_of, contracts_of}
 use Rattle.jd_first_meaning.specs.ClosedPrograms.{task_of}
 use Rattle.jdl.specs.Answers.{AcceptsObligations, leads_of, causes_of}
-
--- a value of a program is a literal in range, if it is a literal
-pub literal_in_range : (ps : List (List ℕ)) (o : Operand) → IsValue ps o → IsLiteralInRange o
-literal_in_range ps (Parameter name) is = tt
-literal_in_range ps (Literal n) is = is
-literal_in_range ps Result is = tt
 
 abbrev plain_task : PlainContracts → PlainObligation → PlainTask
 plain_task c o = record { contracts = c; obligation = o }

@@ -260,6 +260,52 @@ fn identity(rt: HostRuntime) -> Result<(), Fail> {
     Ok(())
 }
 
+const WHOLE: &[u8] = b"class T { \
+ /*@ requires x == 3 && x < y; ensures \\result == x && \\result == 3 && \\result < y; @*/ \
+ static int f(int x, int y) { int a = x; int b = a; a = b; return a; } }";
+
+// The script that closes the obligation of `WHOLE`.
+const WHOLE_PROOF: &[u8] = b"(jdl 1 (proof T::f#1 \
+ (setSimple R1.5 [] [] (setSimple R1.5.2 [] [] (setSimple R1.5.2.2 [] [] \
+ (frameReturn R1.5.2.2.2 [] [] (setSimple R1.5.2.2.2 [] [] \
+ (catchEmpty R1.5.2.2.2.2 [] [] (emptyCode R1.5.2.2.2.2 [] [] (simplify R1 [] [] \
+ (andLeft L1 [] [] (andLeft L2 [] [] (andLeft L3 [] [] (andLeft L4 [] [] (andLeft L4 [] [] \
+ (andRight R1 [] [] (close R1 [L1] []) \
+  (andRight R1 [] [] \
+   (impRight R1 [] [] (andRight R1 [] [] (close R1 [L2] []) \
+     (andRight R1 [] [] \
+      (andRight R1 [] [] (eqRefl R1 [] [] (closeTrue R1 [] [])) (close R1 [L4] [])) \
+      (close R1 [L5] [])))) \
+   (impRight R1 [] [] (notLeft L7 [] [] \
+     (eqRefl R2 [] [] (closeTrue R2 [] [])))))))))))))))))))))";
+
+#[test]
+fn whole_form(rt: HostRuntime) -> Result<(), Fail> {
+    let alloc = rt.alloc();
+    for (proof, status, want) in [
+        (
+            WHOLE_PROOF,
+            0,
+            b"T::f#1 closed 29\naccepted 1 of 1\n".as_slice(),
+        ),
+        (
+            b"(jdl 1 (proof T::f#1 (setSimple R1.5 [] [] (andLeft L1 [] [] -))))".as_slice(),
+            1,
+            b"T::f#1 open 1\naccepted 0 of 1\n".as_slice(),
+        ),
+        (
+            b"(jdl 1 (proof T::f#1 (setSimple R1.5 [] [] (setSimple R1.5 [] [] -))))".as_slice(),
+            1,
+            b"T::f#1 bad 2 5 NoMatch\naccepted 0 of 1\n".as_slice(),
+        ),
+    ] {
+        let (ended, told) = replayed(alloc, proof, WHOLE, &[], &[])?;
+        assert_eq!(rt; told.as_slice(), want);
+        assert_eq!(rt; ended.code(), status);
+    }
+    Ok(())
+}
+
 #[test]
 fn other_words(rt: HostRuntime) -> Result<(), Fail> {
     let alloc = rt.alloc();

@@ -6,8 +6,15 @@ use Rattle.jd_sequent.specs.Trees.{tree_of}
 use Rattle.jd_sequent.specs.Steps.{node_view}
 use Rattle.jd_replay.specs.Verdicts.{IsVerdict}
 use Rattle.jdl.specs.Answers.{leads_of, causes_of}
+use Rattle.jdl.proofs.Literals.{literals_in_range}
 use Rattle.jdl.proofs.Replays.{task_of_program, accepts_its_sequent, verdict_of_program}
 use Rattle.jdl.proofs.answer.verdict_of.Goals as goal
+
+pub contracts-requires : goal.contracts-requires
+contracts-requires g c = literals_in_range (program_view c.args.program.now) c.requires.program
+
+pub obligation-requires : goal.obligation-requires
+obligation-requires g c = literals_in_range (program_view c.args.program.now) c.requires.program
 
 pub replay-requires : goal.replay-requires
 replay-requires g c =

@@ -1,10 +1,10 @@
--- The variables and the constants of parameters: their names, and that no two of them are the same.
+-- The variables of parameters and locals and the constants of parameters: their names, and that no two constants are the same.
 use Rattle.std.proofs.Common.{◌≡◌, ◌≢◌, ℕ, nat_eq, Bool, true, false, ◌&&◌, List, [], ◌∷◌, ◌++◌, map, refl, sym, ap, ◌∙◌, true≢false}
 use Rattle.std.specs.Prelude.{codes, if◌then◌else◌}
 use Rattle.std.specs.List.{All, AllPass, AllPairs, AllByRecursion, IsDistinct}
 use Rattle.std.specs.Str.{bytes_eq}
 use Rattle.std.proofs.lemmas.Bool.{ne_eqb}
-use Rattle.std.proofs.lemmas.List.Elements.{All-head, All-tail}
+use Rattle.std.proofs.lemmas.List.Elements.{All-nil, All-cons, All-head, All-tail}
 use Rattle.std.proofs.lemmas.Map.Made.{IsDistinct-from_AllPairs}
 use Rattle.std.proofs.lemmas.Slice.Eq.{bytes_eq-Decides}
 use Rattle.jd_base.specs.declared.sort.Sort.TheVariants.{Int as IntSort}
@@ -16,8 +16,9 @@ use Rattle.jd_model.specs.ResolvedBodies.{NotSpecial}
 use Rattle.jd_model.specs.Tables as tables
 use Rattle.jd_model.specs.Tables.{constants_of_parameters, source_name}
 use Rattle.jd_first_java.specs.Alphabet.{is_name_byte}
-use Rattle.jd_first_java.specs.Programs.{IsIdentifier}
-use Rattle.jd_first_oblig.specs.Special.{printed_name, parameter_variable, parameter_constant}
+use Rattle.jd_first_java.specs.Programs.{IsIdentifier, AreStatements, Statement, Declare, Assign, ReturnValue}
+use Rattle.jd_first_oblig.specs.Special.{printed_name, variable_of, parameter_constant}
+use Rattle.jd_first_oblig.specs.Obligations.{locals_of}
 
 -- ---- a name's bytes
 
@@ -42,24 +43,31 @@ name_not_special : (w : List ℕ) → AllPass is_name_byte w → is_special (rec
 name_not_special [] h = refl
 name_not_special (b ∷ w) h = byte_apart b 64 (All-head (λ x. is_name_byte x ≡ true) b w h) refl
 
-pub variable_not_special : (w : List ℕ) → AllPass is_name_byte w → is_special (parameter_variable w) ≡ false
+pub variable_not_special : (w : List ℕ) → AllPass is_name_byte w → is_special (variable_of w) ≡ false
 variable_not_special w h = by (bytes_eq w (codes "created"))
   where
     by : (t : Bool) → is_special (record { text = if t then codes "created'2" else w; sort = IntSort }) ≡ false
     by true = refl
     by false = name_not_special w h
 
-pub variables_not_special : (ps : List (List ℕ)) → All IsIdentifier ps → AllOf NotSpecial (map parameter_variable ps)
+pub variables_not_special : (ps : List (List ℕ)) → All IsIdentifier ps → AllOf NotSpecial (map variable_of ps)
 variables_not_special [] h = tt
 variables_not_special (x ∷ xs) h = (variable_not_special x (All-head IsIdentifier x xs h).bytes, variables_not_special xs (All-tail IsIdentifier x xs h))
+
+-- what is declared in a body are names
+pub local_names : (scope : List (List ℕ)) (ss : List Statement) → AreStatements scope ss → All IsIdentifier (locals_of ss)
+local_names scope [] h = All-nil IsIdentifier
+local_names scope (Declare name e ∷ ss) h = All-cons IsIdentifier name (locals_of ss) h.0 (local_names (scope ++ (name ∷ [])) ss h.3)
+local_names scope (Assign name e ∷ ss) h = local_names scope ss h.2
+local_names scope (ReturnValue e ∷ ss) h = local_names scope ss h.1
 
 -- ---- the constants
 
 -- the constant that the tables give a parameter's variable is the parameter's
-pub constant_of_variable : (w : List ℕ) → AllPass is_name_byte w → tables.parameter_constant (parameter_variable w) ≡ parameter_constant w
+pub constant_of_variable : (w : List ℕ) → AllPass is_name_byte w → tables.parameter_constant (variable_of w) ≡ parameter_constant w
 constant_of_variable w h = λ i. record { text = codes "#i_" ++ source_of_printed w h i; sort = IntSort }
 
-pub constants_of_variables : (ps : List (List ℕ)) → All IsIdentifier ps → constants_of_parameters (map parameter_variable ps) ≡ map parameter_constant ps
+pub constants_of_variables : (ps : List (List ℕ)) → All IsIdentifier ps → constants_of_parameters (map variable_of ps) ≡ map parameter_constant ps
 constants_of_variables [] h = refl
 constants_of_variables (x ∷ xs) h = λ i. constant_of_variable x (All-head IsIdentifier x xs h).bytes i ∷ constants_of_variables xs (All-tail IsIdentifier x xs h) i
 
