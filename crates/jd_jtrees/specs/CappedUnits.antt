@@ -5,26 +5,29 @@ use Rattle.jd_syntax.specs.SpecTrees.{PlainSpecBlock}
 use Rattle.jd_syntax.specs.declared.spec.SpecPlace.TheVariants as places
 use Rattle.jd_syntax.specs.JavaTrees as java
 use Rattle.jd_syntax.specs.JavaTrees.{JavaParameter, JavaResult, JavaMember, JavaClass}
+use Rattle.jd_jgrammar.specs.Tokens.{Place}
 use Rattle.jd_jgrammar.specs.Statements.{Annotation}
 use Rattle.jd_jgrammar.specs.Units.{Modifier, is_static, is_final, is_some, Modifiers, has_static, has_final, has_jml, Members, Classes}
 use Rattle.jd_jgrammar.specs.UnitBuilders.{ParameterOf, Declares, RoutineOf, Takes, ClassHeadOf, Heads, UnitBuilder, UnitMaps}
 use Rattle.jd_jtrees.specs.JavaTreesOf.{identifier}
 use Rattle.jd_jtrees.specs.CappedTrees.{Capped, CappedList, capped, capped_list, both, within}
 use Rattle.jd_jtrees.specs.CappedBodies.{CappedStatement, CappedStatements, CappedNames, CappedHandlers, block_values, capped_statements, capped_statement, capped_block, capped_names, capped_handlers}
-use Rattle.jd_jtrees.specs.JavaUnitsOf.{blocks_before, modifier_blocks, name_trees, parameter_of, parameter_trees, result_of, field_of, constant_of, method_of, member_blocks, member_trees, class_of, class_trees, members_height, classes_height}
+use Rattle.jd_jtrees.specs.JavaUnitsOf.{begins, place_of_modifier, first_place, place_of_result, blocks_before, modifier_blocks, name_trees, parameter_of, parameter_trees, result_of, field_of, constant_of, method_of, member_blocks, member_trees, class_of, class_trees, members_height, classes_height}
 
--- what modifiers tell: whether `static` and `final` are among them, and the JML between them
+-- what modifiers tell: where they begin, whether `static` and `final` are among them, and the JML between them
 pub record KnownModifiers : Type 0 where
+  pub first : Option Place
   pub static : Bool
   pub final : Bool
   pub jml : Bool
   pub blocks : List PlainSpecBlock
 
 abbrev pub known_modifiers : Modifiers → KnownModifiers
-known_modifiers ms = record { static = has_static ms; final = has_final ms; jml = has_jml ms; blocks = modifier_blocks ms }
+known_modifiers ms = record { first = first_place ms; static = has_static ms; final = has_final ms; jml = has_jml ms; blocks = modifier_blocks ms }
 
 abbrev pub known_more : KnownModifiers → Modifier → Annotation → KnownModifiers
 known_more k m a = record {
+  first = Some (begins k.first (place_of_modifier m));
   static = k.static || is_static m;
   final = k.final || is_final m;
   jml = k.jml || is_some a;
@@ -32,7 +35,7 @@ known_more k m a = record {
 }
 
 abbrev pub known_parameter : ParameterOf KnownModifiers → JavaParameter
-known_parameter (Declares a k t w p) = parameter_of (blocks_before places.Modifier a ++ k.blocks) t w p
+known_parameter (Declares a k t w p) = parameter_of k.first (blocks_before places.Modifier a ++ k.blocks) t w p
 
 abbrev pub known_parameters : Option (List JavaParameter) → List JavaParameter
 known_parameters None = []
@@ -51,18 +54,18 @@ Dropped = Unit {0}
 abbrev pub also : {A : Type 0} → Option (List A) → A → Option (List A)
 also l x = option_map (λ xs. xs ++ (x ∷ [])) l
 
-abbrev pub with_routine : CappedMembers → List PlainSpecBlock → Bool → JavaResult → RoutineOf (List JavaParameter) Dropped CappedStatements → CappedMembers
-with_routine ys blocks static result (Takes w p q xs r th b) =
-    both (λ l body. l ++ (method_of blocks static result w p (known_parameters xs) body ∷ [])) ys (block_values b)
+abbrev pub with_routine : CappedMembers → Option Place → List PlainSpecBlock → Bool → JavaResult → RoutineOf (List JavaParameter) Dropped CappedStatements → CappedMembers
+with_routine ys first blocks static result (Takes w p q xs r th b) =
+    both (λ l body. l ++ (method_of first blocks static result w p (known_parameters xs) body ∷ [])) ys (block_values b)
 
 abbrev pub with_class : CappedClasses → ClassHeadOf KnownModifiers → CappedMembers → Annotation → CappedClasses
-with_class cs (Heads k p w q e r) ys a = both (λ l members. l ++ (class_of w q e members a ∷ [])) cs ys
+with_class cs (Heads k p w q e r) ys a = both (λ l members. l ++ (class_of (begins k.first p) w q e members a ∷ [])) cs ys
 
 module _ (limit : ℕ) where
   abbrev pub capped_units : UnitBuilder Capped CappedList CappedStatement CappedStatements CappedNames CappedHandlers KnownModifiers (List PlainIdentifier) (List JavaParameter) Dropped CappedMembers CappedClasses Dropped Dropped
   capped_units = record {
     bodies = capped_statements limit;
-    no_modifiers = record { static = false; final = false; jml = false; blocks = [] };
+    no_modifiers = record { first = None; static = false; final = false; jml = false; blocks = [] };
     modified = known_more;
     static_in = λ k. k.static;
     final_in = λ k. k.final;
@@ -75,10 +78,10 @@ module _ (limit : ℕ) where
     throwing = λ p w q. tt;
     more_throws = λ th p w q. tt;
     no_members = Some [];
-    field = λ ys a k t ns p. also ys (field_of (member_blocks places.Field a k.blocks) t ns);
-    constant = λ ys a k p w q r m n s u. also ys (constant_of (member_blocks places.Field a k.blocks) w q m n);
-    method = λ ys a k r x. with_routine ys (member_blocks places.Method a k.blocks) k.static (result_of r) x;
-    constructor = λ ys a k x. with_routine ys (member_blocks places.Method a k.blocks) false java.OfConstructor x;
+    field = λ ys a k t ns p. also ys (field_of k.first (member_blocks places.Field a k.blocks) t ns);
+    constant = λ ys a k p w q r m n s u. also ys (constant_of k.first (member_blocks places.Field a k.blocks) p w q m n);
+    method = λ ys a k r x. with_routine ys (Some (begins k.first (place_of_result r))) (member_blocks places.Method a k.blocks) k.static (result_of r) x;
+    constructor = λ ys a k x. with_routine ys k.first (member_blocks places.Method a k.blocks) false java.OfConstructor x;
     no_classes = Some [];
     add_class = λ cs h ys a p. with_class cs h ys a;
     simple = λ w p. tt;

@@ -58,7 +58,7 @@ jump_tree Breaks p l = java.Break p (label_tree l)
 jump_tree Continues p l = java.Continue p (label_tree l)
 
 abbrev pub handler_tree : CatchHead → List JavaStmt → JavaHandler
-handler_tree (Catches p q f c r x s u) ss = java.Catch (identifier c r) (identifier x s) (java_stmts ss)
+handler_tree (Catches p q f c r x s u) ss = java.Catch p (identifier c r) (identifier x s) (java_stmts ss)
 
 abbrev pub try_tree : Place → List JavaStmt → List JavaHandler → Option (List JavaStmt) → JavaStmt
 try_tree p ss hs None = java.Try p (java_stmts ss) (java_handlers hs)

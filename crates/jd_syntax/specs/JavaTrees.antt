@@ -130,7 +130,7 @@ mutual
     StmtThen : JavaStmt → JavaStmts → JavaStmts
 
   pub data JavaHandler : Type 0 where
-    Catch : PlainIdentifier → PlainIdentifier → JavaStmts → JavaHandler
+    Catch : ℕ → PlainIdentifier → PlainIdentifier → JavaStmts → JavaHandler
 
   pub data JavaHandlers : Type 0 where
     NoHandlers : JavaHandlers
@@ -166,7 +166,7 @@ abbrev pub stmt_layer : Stmt-F (ℕ → JavaStmt) JavaHandler JavaStmt → JavaS
 stmt_layer s = s.form s.at
 
 abbrev pub handler_layer : Handler-F (ℕ → JavaStmt) JavaHandler JavaStmt → JavaHandler
-handler_layer h = Catch (identifier_view h.class) (identifier_view h.name) (java_stmts h.body.items)
+handler_layer h = Catch h.at (identifier_view h.class) (identifier_view h.name) (java_stmts h.body.items)
 
 abbrev pub java_stmt_view : Stmt → JavaStmt
 java_stmt_view = fold-Stmt (ℕ → JavaStmt) JavaHandler JavaStmt stmt_form_layer handler_layer stmt_layer
@@ -174,28 +174,31 @@ java_stmt_view = fold-Stmt (ℕ → JavaStmt) JavaHandler JavaStmt stmt_form_lay
 -- ---- classes and their members
 
 pub record JavaField : Type 0 where
+  pub at : ℕ
   pub specs : List PlainSpecBlock
   pub ty : PlainWritten
   pub names : List PlainIdentifier
 
 abbrev pub field_view : FieldDecl → JavaField
-field_view f = record { specs = map spec_block_view f.specs.items; ty = written_view f.ty; names = map identifier_view f.names.items }
+field_view f = record { at = f.at; specs = map spec_block_view f.specs.items; ty = written_view f.ty; names = map identifier_view f.names.items }
 
 pub record JavaConstant : Type 0 where
+  pub at : ℕ
   pub specs : List PlainSpecBlock
   pub name : PlainIdentifier
   pub value : ℤ
 
 abbrev pub constant_view : ConstantDecl → JavaConstant
-constant_view c = record { specs = map spec_block_view c.specs.items; name = identifier_view c.name; value = c.value }
+constant_view c = record { at = c.at; specs = map spec_block_view c.specs.items; name = identifier_view c.name; value = c.value }
 
 pub record JavaParameter : Type 0 where
+  pub at : ℕ
   pub specs : List PlainSpecBlock
   pub ty : PlainWritten
   pub name : PlainIdentifier
 
 abbrev pub parameter_view : Parameter → JavaParameter
-parameter_view x = record { specs = map spec_block_view x.specs.items; ty = written_view x.ty; name = identifier_view x.name }
+parameter_view x = record { at = x.at; specs = map spec_block_view x.specs.items; ty = written_view x.ty; name = identifier_view x.name }
 
 pub data JavaResult : Type 0 where
   Void : JavaResult
@@ -208,6 +211,7 @@ result_view (results.Gives t) = Gives (written_view t)
 result_view results.Constructor = OfConstructor
 
 pub record JavaMethod : Type 0 where
+  pub at : ℕ
   pub specs : List PlainSpecBlock
   pub is_static : Bool
   pub result : JavaResult
@@ -217,6 +221,7 @@ pub record JavaMethod : Type 0 where
 
 abbrev pub method_view : MethodDecl → JavaMethod
 method_view m = record {
+  at = m.at;
   specs = map spec_block_view m.specs.items;
   is_static = m.is_static;
   result = result_view m.result;
@@ -236,6 +241,7 @@ member_view (members.Constant c) = ConstantMember (constant_view c)
 member_view (members.Method m) = MethodMember (method_view m)
 
 pub record JavaClass : Type 0 where
+  pub at : ℕ
   pub name : PlainIdentifier
   pub parent : Option PlainIdentifier
   pub members : List JavaMember
@@ -243,6 +249,7 @@ pub record JavaClass : Type 0 where
 
 abbrev pub class_view : ClassDecl → JavaClass
 class_view c = record {
+  at = c.at;
   name = identifier_view c.name;
   parent = option_map identifier_view c.parent;
   members = map member_view c.members.items;

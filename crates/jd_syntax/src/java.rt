@@ -225,6 +225,8 @@ pub enum StmtForm {
 #[cycle(java_stmt)]
 #[derive(Debug, Drop)]
 pub struct Handler {
+    /// The offset of its first token.
+    pub at: u32,
     /// The class of what it catches.
     pub class: Identifier,
     /// The name that is bound to it.
@@ -236,6 +238,8 @@ pub struct Handler {
 /// A field's declaration (JLS 8.3).
 #[derive(Debug, Drop)]
 pub struct FieldDecl {
+    /// The offset of its first token; JML before it does not count.
+    pub at: u32,
     /// The JML before it and at its modifiers, in order.
     pub specs: Vec<SpecBlock>,
     /// Its type.
@@ -247,6 +251,8 @@ pub struct FieldDecl {
 /// A constant, `static final int K = n;` (JLS 8.3.2).
 #[derive(Debug, Drop)]
 pub struct ConstantDecl {
+    /// The offset of its first token; JML before it does not count.
+    pub at: u32,
     /// The JML before it and at its modifiers, in order.
     pub specs: Vec<SpecBlock>,
     /// Its name.
@@ -258,6 +264,8 @@ pub struct ConstantDecl {
 /// A parameter of a method or constructor (JLS 8.4.1).
 #[derive(Debug, Drop)]
 pub struct Parameter {
+    /// The offset of its first token; JML before it does not count.
+    pub at: u32,
     /// The JML before it and at its modifiers, in order.
     pub specs: Vec<SpecBlock>,
     /// Its type.
@@ -280,6 +288,8 @@ pub enum ResultType {
 /// A method or a constructor (JLS 8.4, 8.8).
 #[derive(Debug, Drop)]
 pub struct MethodDecl {
+    /// The offset of its first token; JML before it does not count.
+    pub at: u32,
     /// The JML before it and at its modifiers, in order.
     pub specs: Vec<SpecBlock>,
     /// Whether it is static; a constructor is not.
@@ -308,6 +318,8 @@ pub enum Member {
 /// A class (JLS 8.1).
 #[derive(Debug, Drop)]
 pub struct ClassDecl {
+    /// The offset of its first token; JML before it does not count.
+    pub at: u32,
     /// Its name.
     pub name: Identifier,
     /// The class behind `extends`.
