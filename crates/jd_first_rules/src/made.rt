@@ -69,7 +69,7 @@ pub fn premises_of(
         (λ v. map sequent_view v.items ≡ made_premises (sequent_view sequent.now) (place_view place.now) made) }
 {
     match made {
-        Made::Goals(goals) => premises(alloc, sequent, place.side, place.index, &goals),
+        Made::Goals(goals) => premises(alloc, sequent, place.side, place.index, goals),
         Made::Instead(after) => {
             let premise = put_at_place(alloc, sequent, place, after)?;
             single(alloc, premise)

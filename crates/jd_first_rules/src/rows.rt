@@ -7,7 +7,7 @@ ghost use Rattle.jd_first_rules.specs.Goals.{goal_view};
 
 use jd_base::NoMemory;
 use jd_first_steps::FirstRule;
-use jd_model::{Sequent, Side, copy_formulas};
+use jd_model::{Sequent, Side};
 use jd_term::Formula;
 use std::alloc::Global;
 
@@ -24,7 +24,7 @@ pub struct Goal {
 fn alone(alloc: Global, formula: &Formula) -> Result<Vec<Formula>, NoMemory>
     ensures { IfOk result (λ v. map formula_view v.items ≡ formula_view formula.now ∷ []) }
 {
-    let mut out = Vec::new(alloc);
+    let mut out = Vec::with_capacity(alloc, 1)?;
     out.push(formula.copy(alloc)?)?;
     Ok(out)
 }
@@ -33,7 +33,7 @@ fn alone(alloc: Global, formula: &Formula) -> Result<Vec<Formula>, NoMemory>
 fn two(alloc: Global, a: &Formula, b: &Formula) -> Result<Vec<Formula>, NoMemory>
     ensures { IfOk result (λ v. map formula_view v.items ≡ formula_view a.now ∷ formula_view b.now ∷ []) }
 {
-    let mut out = Vec::new(alloc);
+    let mut out = Vec::with_capacity(alloc, 2)?;
     out.push(a.copy(alloc)?)?;
     out.push(b.copy(alloc)?)?;
     Ok(out)
@@ -105,29 +105,35 @@ fn instead(
     alloc: Global,
     formulas: &[Formula],
     index: u32,
-    new: &[Formula],
+    mut new: Vec<Formula>,
 ) -> Result<Vec<Formula>, NoMemory>
     requires some { 0 < index }
     requires within { index ≤ length formulas.now }
     ensures { IfOk result
-        (λ v. map formula_view v.items ≡ with_instead (map formula_view formulas.now) index (map formula_view new.now)) }
+        (λ v. map formula_view v.items ≡ with_instead (map formula_view formulas.now) index (map formula_view new.items)) }
 {
     let place = index as usize - 1;
     let (front, _) = formulas.split_at(place);
     let (_, back) = formulas.split_at(index as usize);
-    let mut out = Vec::new(alloc);
+    let room = place.saturating_add(new.len()).saturating_add(back.len());
+    let mut out = Vec::with_capacity(alloc, room)?;
     extend(&mut out, alloc, front)?;
-    extend(&mut out, alloc, new)?;
+    out.append(&mut new)?;
     extend(&mut out, alloc, back)?;
     Ok(out)
 }
 
 // The formulas and then others.
-fn joined(alloc: Global, formulas: &[Formula], new: &[Formula]) -> Result<Vec<Formula>, NoMemory>
-    ensures { IfOk result (λ v. map formula_view v.items ≡ map formula_view formulas.now ++ map formula_view new.now) }
+fn joined(
+    alloc: Global,
+    formulas: &[Formula],
+    mut new: Vec<Formula>,
+) -> Result<Vec<Formula>, NoMemory>
+    ensures { IfOk result (λ v. map formula_view v.items ≡ map formula_view formulas.now ++ map formula_view new.items) }
 {
-    let mut out = copy_formulas(alloc, formulas)?;
-    extend(&mut out, alloc, new)?;
+    let mut out = Vec::with_capacity(alloc, formulas.len().saturating_add(new.len()))?;
+    extend(&mut out, alloc, formulas)?;
+    out.append(&mut new)?;
     Ok(out)
 }
 
@@ -137,22 +143,23 @@ pub fn premise(
     sequent: &Sequent,
     side: Side,
     index: u32,
-    goal: &Goal,
+    goal: Goal,
 ) -> Result<Sequent, NoMemory>
     requires some { 0 < index }
     requires within { index ≤ length (on_side (sequent_view sequent.now) side) }
     ensures { IfOk result
-        (λ s. sequent_view s ≡ goal_premise (sequent_view sequent.now) side index (goal_view goal.now)) }
+        (λ s. sequent_view s ≡ goal_premise (sequent_view sequent.now) side index (goal_view goal)) }
 {
+    let Goal { here, other } = goal;
     match side {
         Side::Left => {
-            let left = instead(alloc, &sequent.left, index, &goal.here)?;
-            let right = joined(alloc, &sequent.right, &goal.other)?;
+            let left = instead(alloc, &sequent.left, index, here)?;
+            let right = joined(alloc, &sequent.right, other)?;
             Ok(Sequent { left, right })
         }
         Side::Right => {
-            let left = joined(alloc, &sequent.left, &goal.other)?;
-            let right = instead(alloc, &sequent.right, index, &goal.here)?;
+            let left = joined(alloc, &sequent.left, other)?;
+            let right = instead(alloc, &sequent.right, index, here)?;
             Ok(Sequent { left, right })
         }
     }
@@ -164,14 +171,14 @@ pub fn premises(
     sequent: &Sequent,
     side: Side,
     index: u32,
-    goals: &[Goal],
+    goals: Vec<Goal>,
 ) -> Result<Vec<Sequent>, NoMemory>
     requires some { 0 < index }
     requires within { index ≤ length (on_side (sequent_view sequent.now) side) }
     ensures { IfOk result
-        (λ v. map sequent_view v.items ≡ map (goal_premise (sequent_view sequent.now) side index) (map goal_view goals.now)) }
+        (λ v. map sequent_view v.items ≡ map (goal_premise (sequent_view sequent.now) side index) (map goal_view goals.items)) }
 {
-    let mut out = Vec::new(alloc);
+    let mut out = Vec::with_capacity(alloc, goals.len())?;
     for goal in goals {
         out.push(premise(alloc, sequent, side, index, goal)?)?;
     }

@@ -68,7 +68,7 @@ impl Code {
 fn copy_stmts(alloc: Global, stmts: &[CodeStmt]) -> Result<Vec<CodeStmt>, NoMemory>
     ensures { IfOk result (λ v. map stmt_view v.items ≡ map stmt_view stmts.now) }
 {
-    let mut copies = Vec::new(alloc);
+    let mut copies = Vec::with_capacity(alloc, stmts.len())?;
     for s in stmts {
         copies.push(s.copy(alloc)?)?;
     }
@@ -79,7 +79,7 @@ fn copy_stmts(alloc: Global, stmts: &[CodeStmt]) -> Result<Vec<CodeStmt>, NoMemo
 fn copy_exprs(alloc: Global, exprs: &[CodeExpr]) -> Result<Vec<CodeExpr>, NoMemory>
     ensures { IfOk result (λ v. map expr_view v.items ≡ map expr_view exprs.now) }
 {
-    let mut copies = Vec::new(alloc);
+    let mut copies = Vec::with_capacity(alloc, exprs.len())?;
     for e in exprs {
         copies.push(e.copy(alloc)?)?;
     }
@@ -213,7 +213,7 @@ impl Sx {
 fn copy_parts(alloc: Global, parts: &[Sx]) -> Result<Vec<Sx>, NoMemory>
     ensures { IfOk result (λ v. map sx_view v.items ≡ map sx_view parts.now) }
 {
-    let mut copies = Vec::new(alloc);
+    let mut copies = Vec::with_capacity(alloc, parts.len())?;
     for x in parts {
         copies.push(x.copy(alloc)?)?;
     }

@@ -170,7 +170,7 @@ impl Update {
 fn copy_pairs(alloc: Global, pairs: &[Elementary]) -> Result<Vec<Elementary>, NoMemory>
     ensures { IfOk result (λ v. map pair_view v.items ≡ map pair_view pairs.now) }
 {
-    let mut copies = Vec::new(alloc);
+    let mut copies = Vec::with_capacity(alloc, pairs.len())?;
     for p in pairs {
         copies.push(p.copy(alloc)?)?;
     }

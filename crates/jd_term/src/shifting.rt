@@ -118,7 +118,7 @@ fn shift_pairs(
     requires { PairsFit from by (map pair_view pairs.now) }
     ensures { IfOk result (λ v. map pair_view v.items ≡ pairs_shift from by (map pair_view pairs.now)) }
 {
-    let mut shifted = Vec::new(alloc);
+    let mut shifted = Vec::with_capacity(alloc, pairs.len())?;
     for p in pairs {
         let variable = p.variable.copy(alloc)?;
         let value = shift_term(alloc, &p.value, from, by)?;

@@ -46,7 +46,7 @@ fn name_order(x: &VarId, y: &VarId) -> Ordering
 fn copy_pairs(alloc: Global, q: &[Elementary]) -> Result<Vec<Elementary>, NoMemory>
     ensures { IfOk result (λ v. map pair_view v.items ≡ map pair_view q.now) }
 {
-    let mut copies = Vec::new(alloc);
+    let mut copies = Vec::with_capacity(alloc, q.len())?;
     for p in q {
         copies.push(p.copy(alloc)?)?;
     }

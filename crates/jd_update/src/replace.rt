@@ -43,7 +43,7 @@ pub(crate) fn inner(alloc: Global, q: &[Elementary]) -> Result<Vec<Elementary>, 
     requires { InnerFits (map pair_view q.now) }
     ensures { IfOk result (λ v. map pair_view v.items ≡ inner (map pair_view q.now)) }
 {
-    let mut shifted = Vec::new(alloc);
+    let mut shifted = Vec::with_capacity(alloc, q.len())?;
     for p in q {
         let variable = p.variable.copy(alloc)?;
         let value = shift_term(alloc, &p.value, 0, 1)?;
