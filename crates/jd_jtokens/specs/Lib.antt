@@ -1,0 +1,4 @@
+pub mod Placed
+pub mod Terminals
+pub mod Unsupported
+pub mod Words
