@@ -89,7 +89,7 @@ written p =
 
 -- ---- which programs there are
 
--- the keywords, and the literals that are words (JLS 3.9, 3.10.3, 3.10.7)
+-- the keywords, among them `_` alone, and the literals that are words (JLS 3.9, 3.10.3, 3.10.8)
 abbrev pub reserved_words : List (List ℕ)
 reserved_words =
     codes "abstract" ∷ codes "assert" ∷ codes "boolean" ∷ codes "break" ∷ codes "byte" ∷ codes "case" ∷ codes "catch" ∷ codes "char" ∷ codes "class"
@@ -98,7 +98,7 @@ reserved_words =
     ∷ codes "interface" ∷ codes "long" ∷ codes "native" ∷ codes "new" ∷ codes "package" ∷ codes "private" ∷ codes "protected" ∷ codes "public"
     ∷ codes "return" ∷ codes "short" ∷ codes "static" ∷ codes "strictfp" ∷ codes "super" ∷ codes "switch" ∷ codes "synchronized" ∷ codes "this"
     ∷ codes "throw" ∷ codes "throws" ∷ codes "transient" ∷ codes "try" ∷ codes "void" ∷ codes "volatile" ∷ codes "while"
-    ∷ codes "true" ∷ codes "false" ∷ codes "null" ∷ []
+    ∷ codes "true" ∷ codes "false" ∷ codes "null" ∷ codes "_" ∷ []
 
 -- the classes that are there before the file is read
 abbrev pub prelude_classes : List (List ℕ)

@@ -3,7 +3,7 @@ ghost use Rattle.std.specs.List.{All, AllPass, AllPairs, Contains};
 ghost use Rattle.jd_first_java.specs.Alphabet.{is_name_byte};
 ghost use Rattle.jd_first_java.specs.Programs.{IsIdentifier, AreParameters, reserved_words, prelude_classes};
 
-static RESERVED_WORDS: [&[u8]; 53] = [
+static RESERVED_WORDS: [&[u8]; 54] = [
     b"abstract",
     b"assert",
     b"boolean",
@@ -57,6 +57,7 @@ static RESERVED_WORDS: [&[u8]; 53] = [
     b"true",
     b"false",
     b"null",
+    b"_",
 ];
 
 static PRELUDE_CLASSES: [&[u8]; 10] = [

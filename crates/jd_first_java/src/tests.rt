@@ -149,6 +149,7 @@ fn refused(rt: HostRuntime) -> Result<(), Fail> {
         "class final { /*@ ensures 0 < 2; @*/ static int m() { return 0; } }",
         "class A { /*@ ensures 0 < 2; @*/ static int goto() { return 0; } }",
         "class A { /*@ ensures 0 < 2; @*/ static int m(int null) { return 0; } }",
+        "class A { /*@ ensures 0 < 2; @*/ static int m(int _) { return 0; } }",
         "class A { /*@ ensures 0 < 2; @*/ static int m(int 1a) { return 0; } }",
         "class A { /*@ ensures 0 < 2; @*/ static int m(int a, int b, int a) { return 0; } }",
         "class E { /*@ ensures 1 < t; @*/ static int m(int a, int b, int c, int d, int e, int f, int g, int h, int i, int j, int k, int l, int m, int n, int o, int p, int q, int r, int s, int t, int u) { return 2; } }",
