@@ -1,0 +1,4 @@
+pub mod Advances
+pub mod Brackets
+pub mod Reduced
+pub mod Views

@@ -1,0 +1,35 @@
+//! Expressions of Java, read token by token: the reader of the grammar's trees up to a limit of height, with a stack of
+//! its own.
+#![tactic(auto)]
+
+mod builders;
+mod forms;
+mod have;
+mod kinds;
+mod limits;
+mod named;
+mod operators;
+mod parts;
+mod reading;
+#[cfg(test)]
+mod reading_tests;
+mod reduce;
+mod stack;
+mod step;
+#[cfg(test)]
+mod tests;
+mod types;
+mod values;
+mod want;
+
+pub use builders::{
+    assigned, binary, call, cast, conditional, constant, counted, empty_call, first, get, index,
+    instance_of, integer, more, new_array, parenthesized, prefixed, this_object,
+};
+pub use forms::written_type;
+pub use kinds::{has_elements, has_members, is_effect, is_target};
+pub use limits::{higher, over, within};
+pub use reading::{Advance, Frame, Reading, Top, TypeHole};
+pub use step::{advance, finish, lone_name, start};
+pub use types::{TypeState, TypeTokens, ended_type, is_reference, more_type, start_type};
+pub use values::{Access, Callee, Kind, Prefix, Value, ValueList};
