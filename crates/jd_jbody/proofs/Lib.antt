@@ -1,0 +1,4 @@
+mod Ending
+mod Settling
+mod Turning
+mod Wanting

@@ -1,0 +1,4 @@
+pub mod Settled
+pub mod Terminals
+pub mod Turns
+pub mod Views

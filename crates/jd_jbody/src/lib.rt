@@ -1,0 +1,25 @@
+//! Bodies of methods and constructors of Java, read token by token: the reader of the grammar's trees up to a limit of
+//! height, with a stack of its own.
+#![tactic(auto)]
+
+mod behind;
+mod blocks;
+mod body;
+mod declarations;
+mod endings;
+mod expressions;
+mod handlers;
+mod parts;
+mod reading;
+mod settle;
+mod stack;
+mod terminals;
+#[cfg(test)]
+mod tests;
+mod want;
+
+pub use body::{ended_body, start_body, step};
+pub use reading::{
+    BodyReading, CatchState, Declaration, Frame, Hole, ItemsBefore, ListPlace, NamesBefore,
+    Opening, Role, Top,
+};

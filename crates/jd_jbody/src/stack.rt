@@ -1,0 +1,43 @@
+ghost use Rattle.std.specs.Prelude.{◌≡◌, [], ◌∷◌, OnOk, MatchOption};
+ghost use Rattle.jd_jgrammar.specs.StatementReader as reader;
+ghost use Rattle.jd_jtrees.specs.CappedBodies.{capped_statements};
+ghost use Rattle.jd_jbody.specs.Views.{frame_view, stack_view, body_view, state_of};
+
+use crate::reading::{BodyReading, Frame, Top};
+use jd_base::NoMemory;
+
+/// What waits is put on the stack.
+pub(crate) fn push(frames: &mut Vec<Frame>, frame: Frame) -> Result<(), NoMemory>
+    ensures { OnOk result (stack_view frames.new.items ≡ frame_view frame ∷ stack_view frames.old.items) }
+{
+    frames.push(frame)?;
+    Ok(())
+}
+
+/// What waits innermost, taken off the stack.
+pub(crate) fn pop(frames: &mut Vec<Frame>) -> Option<Frame>
+    ensures { MatchOption result ((stack_view frames.old.items ≡ []) × (stack_view frames.new.items ≡ []))
+        (λ f. stack_view frames.old.items ≡ frame_view f ∷ stack_view frames.new.items) }
+{
+    frames.pop()
+}
+
+/// Whether a block waits innermost.
+pub(crate) fn is_in_block(limit: u16, frames: &Vec<Frame>) -> bool
+    ensures { result ≡ reader.is_in_block (capped_statements limit) (stack_view frames.now.items) }
+{
+    match frames.last() {
+        Some(Frame::InBlock(_, _, _)) => true,
+        _ => false,
+    }
+}
+
+/// A state.
+pub(crate) fn at_top(top: Top, frames: Vec<Frame>) -> BodyReading
+    ensures { body_view result ≡ state_of top (stack_view frames.items) }
+{
+    BodyReading { top, frames }
+}
+
+/// What is not needed any more.
+pub(crate) fn given_up<T: Drop>(_part: T) {}
