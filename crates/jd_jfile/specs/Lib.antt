@@ -1,0 +1,3 @@
+pub mod Modifying
+pub mod Terminals
+pub mod Views

@@ -1,0 +1,4 @@
+mod Answering
+mod Reading
+mod Running
+mod Tokens
