@@ -1,0 +1,8 @@
+//! Java files, from their bytes to their trees, and why bytes are no file.
+#![tactic(auto)]
+
+mod read;
+#[cfg(test)]
+mod tests;
+
+pub use read::{SourceRefusal, one_source, read_source};
