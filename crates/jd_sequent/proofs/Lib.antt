@@ -1,6 +1,7 @@
 pub mod Causes
 pub mod Preorder
 pub mod Scripts
+pub mod Small
 pub mod Freshness
 pub mod RulesBelowUpdates
 pub mod SoundDerivations

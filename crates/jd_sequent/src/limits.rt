@@ -25,6 +25,18 @@ fn are_small(formulas: &[Formula]) -> bool
     true
 }
 
+// The same of formulas that have so many nodes together: few nodes need no look at each, as no formula is deeper than it is
+// large.
+fn are_small_of(formulas: &[Formula], nodes: u64) -> bool
+    requires { nodes ≡ min (sum_by formula_size (map formula_view formulas.now)) (2 ^ 64 - 1) }
+    ensures { result ≡ list_all is_small_formula (map formula_view formulas.now) }
+{
+    if nodes <= 1_000 {
+        return true;
+    }
+    are_small(formulas)
+}
+
 fn nodes_in(formulas: &[Formula]) -> u64
     ensures { result ≡ min (sum_by formula_size (map formula_view formulas.now)) (2 ^ 64 - 1) }
 {
@@ -44,6 +56,9 @@ pub fn is_within_limits(sequent: &Sequent) -> bool
     if count > 4_096 {
         return false;
     }
-    let nodes = nodes_in(&sequent.left).saturating_add(nodes_in(&sequent.right));
-    nodes <= 1_000_000 && are_small(&sequent.left) && are_small(&sequent.right)
+    let left = nodes_in(&sequent.left);
+    let right = nodes_in(&sequent.right);
+    left.saturating_add(right) <= 1_000_000
+        && are_small_of(&sequent.left, left)
+        && are_small_of(&sequent.right, right)
 }
