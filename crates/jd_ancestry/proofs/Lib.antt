@@ -1,0 +1,5 @@
+mod Ancestry
+mod DepthLaws
+mod Marks
+mod Numbers
+mod Steps

@@ -1,0 +1,4 @@
+pub mod Ancestors
+pub mod Depths
+pub mod Laws
+pub mod Walks

@@ -1,0 +1,13 @@
+//! Nodes of which each stands below one other, or below none, and those above them.
+#![tactic(auto)]
+
+mod cycles;
+mod numbering;
+mod order;
+#[cfg(test)]
+mod tests;
+mod walks;
+
+pub use cycles::first_above_itself;
+pub use numbering::depths;
+pub use order::{depths_are_an_order, is_above};

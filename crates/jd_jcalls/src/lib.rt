@@ -1,0 +1,11 @@
+//! The methods and constructors that a body of Java calls.
+#![tactic(auto)]
+
+mod called;
+mod expressions;
+mod statements;
+#[cfg(test)]
+mod tests;
+
+pub use called::Called;
+pub use statements::calls_of;

@@ -1,0 +1,6 @@
+pub mod CallGraph
+pub mod Classes
+pub mod Laws
+pub mod Members
+pub mod Methods
+pub mod Refusals

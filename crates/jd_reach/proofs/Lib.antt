@@ -1,0 +1,3 @@
+mod Bits
+mod Rounds
+mod Steps

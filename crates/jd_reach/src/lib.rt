@@ -1,0 +1,10 @@
+//! Directed graphs as rows of bits, and which of their nodes reach which.
+#![tactic(auto)]
+
+mod edges;
+mod graph;
+mod rows;
+#[cfg(test)]
+mod tests;
+
+pub use graph::Graph;
