@@ -1,6 +1,7 @@
 -- The file that tokens spell, and why they spell none.
-use Rattle.std.specs.Prelude.{◌≡◌, ℕ, ◌≤◌, ◌<◌, List, [], Option, Some, None}
+use Rattle.std.specs.Prelude.{◌≡◌, ℕ, ◌-◌, ◌≤◌, ◌<◌, List, [], length, Option, Some, None}
 use Rattle.std.specs.List.{slice_get, position_from}
+use Rattle.std.specs.Option.{option_map_or}
 use Rattle.jd_lex.specs.Parts as lexed
 use Rattle.jd_syntax.specs.JavaTrees.{JavaUnit}
 use Rattle.jd_jgrammar.specs.Tokens.{Tokens}
@@ -62,9 +63,14 @@ pub record IsTooDeep (ts : List lexed.Token) : Type 0 where
   pub spelled : IsUnit (seen ts) file
   pub above : greatest_height < unit_height file
 
--- each refusal holds exactly where its cause does; of the place where no file goes on nothing is said
+-- the offset behind the last token, 0 where there is none
+abbrev pub end_of : List lexed.Token → ℕ
+end_of ts = option_map_or (λ t. t.ends) (slice_get ts (length ts - 1)) 0
+
+-- each refusal holds exactly where its cause does; the place where no file goes on, and that of what is too high, are not
+-- behind the tokens
 abbrev pub Refuses : List lexed.Token → ParseRefusal → Type 0
-Refuses ts (refusals.Syntax at) = IsNoFile ts
+Refuses ts (refusals.Syntax at) = IsNoFile ts × (at ≤ end_of ts)
 Refuses ts (refusals.Unsupported at what) = IsUnsupported ts at what.items
-Refuses ts (refusals.TooDeep at) = IsTooDeep ts
+Refuses ts (refusals.TooDeep at) = IsTooDeep ts × (at ≤ end_of ts)
 Refuses ts refusals.NoMemory = Unit {0}

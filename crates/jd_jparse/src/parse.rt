@@ -61,18 +61,23 @@ fn read_tokens(alloc: Global, tokens: &[Token]) -> Result<FileRead, NoMemory>
 }
 
 // The offset behind the last token.
-fn end_of(tokens: &[Token]) -> u32 {
+fn end_of(tokens: &[Token]) -> u32
+    ensures { result ≡ parses.end_of (tokens_view tokens.now) }
+{
     match tokens.last() {
         Some(token) => token.to,
         None => 0,
     }
 }
 
-// The place that was found, else the end.
-fn place_or_end(place: Option<u32>, tokens: &[Token]) -> u32 {
+// The place that was found, if it is not behind the tokens; else their end.
+fn place_within(place: Option<u32>, tokens: &[Token]) -> u32
+    ensures { result ≤ parses.end_of (tokens_view tokens.now) }
+{
+    let end = end_of(tokens);
     match place {
-        Some(at) => at,
-        None => end_of(tokens),
+        Some(at) if at < end => at,
+        _ => end,
     }
 }
 
@@ -93,7 +98,7 @@ fn parse_supported(alloc: Global, tokens: &[Token]) -> Result<Unit, ParseRefusal
         FileRead::Whole(classes, high) => (classes, high),
         FileRead::Stops(at) => {
             return Err(ParseRefusal::Syntax {
-                at: place_or_end(at, tokens),
+                at: place_within(at, tokens),
             });
         }
     };
@@ -101,7 +106,7 @@ fn parse_supported(alloc: Global, tokens: &[Token]) -> Result<Unit, ParseRefusal
     match trees {
         Some(classes) => Ok(Unit { classes }),
         None => Err(ParseRefusal::TooDeep {
-            at: place_or_end(high, tokens),
+            at: place_within(high, tokens),
         }),
     }
 }

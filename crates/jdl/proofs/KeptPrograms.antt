@@ -30,5 +30,5 @@ accepted_is_kept leads accepts words contents taken sound a p f κ c has =
     let u = a.understood in
     let same : f.bytes ≡ u.file_bytes = same_bytes words contents f.proof f.file u.proof u.file f.bytes u.file_bytes f.words_ u.read.words_ f.told u.read.file_told in
     let reads : Reads u.file_bytes f.spelled.text = subst (λ b. Reads b f.spelled.text) same f.spelled.reads in
-    let means : IsProgramOf q p = subst (λ t. IsProgramOf t p) (one_meaning u.file_bytes f.spelled.text q reads u.java_) f.spelled.means in
-    closed_programs_are_kept q u.java_.fit (sound q a.tree (obligation_sequent q) [] (taken q) a.derived) p means κ c has
+    let means : IsProgramOf q p = subst (λ t. IsProgramOf t p) (one_meaning u.file_bytes f.spelled.text q reads u.java_.reads) f.spelled.means in
+    closed_programs_are_kept q u.java_.reads.fit (sound q a.tree (obligation_sequent q) [] (taken q) a.derived) p means κ c has

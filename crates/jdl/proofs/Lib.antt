@@ -4,6 +4,7 @@ pub mod Lengths
 pub mod Literals
 pub mod Outcomes
 pub mod Reading
+pub mod Refusals
 pub mod Replays
 pub mod SortedObligations
 pub mod Texts

@@ -8,7 +8,8 @@ use Rattle.jd_first_java.specs.Programs.{Program}
 use Rattle.jd_first_script.specs.Scripts.{PlainScript, OneProof}
 use Rattle.jd_first_oblig.specs.Obligations.{obligation_name, obligation_sequent}
 use Rattle.jdl.specs.Reports.{IsReport, missing, closed, opened, broken}
-use Rattle.jdl.specs.Answers.{IsAnswer, usage, long_proof, long_file, no_program, no_script, long_report, replayed}
+use Rattle.jdl.specs.Answers.{IsAnswer, usage, long_proof, long_file, refused_source, no_program, no_script, long_report, replayed}
+use Rattle.jdl.specs.Sources.{not_read, not_built}
 use Rattle.jdl.specs.Outcomes.{AreUnderstood, IsAccepted, IsNotAccepted, IsSourceRefused, IsScriptRefused, IsPastLimit}
 use Rattle.jdl.specs.Outcomes as outcome
 use Rattle.jdl.specs.declared.status.Status.{Status}
@@ -54,7 +55,8 @@ pub answer_done : (leads : Program → PlainSequent → PlainStep → List Plain
 answer_done leads causes words contents status text (usage none) is = absurd cc
 answer_done leads causes words contents status text (long_proof proof file bytes are told past) is = absurd cc
 answer_done leads causes words contents status text (long_file proof file proof_bytes bytes are proof_told within told past) is = absurd cc
-answer_done leads causes words contents status text (no_program proof file proof_bytes file_bytes read none) is = absurd cc
+answer_done leads causes words contents status text (refused_source proof file proof_bytes file_bytes r read holds) is = absurd cc
+answer_done leads causes words contents status text (no_program proof file proof_bytes file_bytes read is_file none) is = absurd cc
 answer_done leads causes words contents status text (no_script proof file proof_bytes file_bytes q read reads none) is = absurd cc
 answer_done leads causes words contents status text (long_report proof file proof_bytes file_bytes q s status' text' read reads script_reads report past) is = absurd cc
 answer_done leads causes words contents status text (replayed proof file proof_bytes file_bytes q s status' text' read reads script_reads report within) is =
@@ -70,7 +72,8 @@ pub answer_not_accepted : (leads : Program → PlainSequent → PlainStep → Li
 answer_not_accepted leads causes way free words contents status text (usage none) is = absurd cc
 answer_not_accepted leads causes way free words contents status text (long_proof proof file bytes are told past) is = absurd cc
 answer_not_accepted leads causes way free words contents status text (long_file proof file proof_bytes bytes are proof_told within told past) is = absurd cc
-answer_not_accepted leads causes way free words contents status text (no_program proof file proof_bytes file_bytes read none) is = absurd cc
+answer_not_accepted leads causes way free words contents status text (refused_source proof file proof_bytes file_bytes r read holds) is = absurd cc
+answer_not_accepted leads causes way free words contents status text (no_program proof file proof_bytes file_bytes read is_file none) is = absurd cc
 answer_not_accepted leads causes way free words contents status text (no_script proof file proof_bytes file_bytes q read reads none) is = absurd cc
 answer_not_accepted leads causes way free words contents status text (long_report proof file proof_bytes file_bytes q s status' text' read reads script_reads report past) is = absurd cc
 answer_not_accepted leads causes way free words contents status text (replayed proof file proof_bytes file_bytes q s status' text' read reads script_reads report within) is = record {
@@ -89,8 +92,10 @@ pub answer_refused_source : (leads : Program → PlainSequent → PlainStep → 
 answer_refused_source leads causes words contents status text (usage none) is = absurd cc
 answer_refused_source leads causes words contents status text (long_proof proof file bytes are told past) is = absurd cc
 answer_refused_source leads causes words contents status text (long_file proof file proof_bytes bytes are proof_told within told past) is = absurd cc
-answer_refused_source leads causes words contents status text (no_program proof file proof_bytes file_bytes read none) is =
-    record { proof = proof; file = file; proof_bytes = proof_bytes; file_bytes = file_bytes; read = read; no_program = none }
+answer_refused_source leads causes words contents status text (refused_source proof file proof_bytes file_bytes r read holds) is =
+    record { proof = proof; file = file; proof_bytes = proof_bytes; file_bytes = file_bytes; read = read; no_program = not_read r holds }
+answer_refused_source leads causes words contents status text (no_program proof file proof_bytes file_bytes read is_file none) is =
+    record { proof = proof; file = file; proof_bytes = proof_bytes; file_bytes = file_bytes; read = read; no_program = not_built is_file none }
 answer_refused_source leads causes words contents status text (no_script proof file proof_bytes file_bytes q read reads none) is = absurd cc
 answer_refused_source leads causes words contents status text (long_report proof file proof_bytes file_bytes q s status' text' read reads script_reads report past) is = absurd cc
 answer_refused_source leads causes words contents status text (replayed proof file proof_bytes file_bytes q s status' text' read reads script_reads report within) is =
@@ -100,7 +105,8 @@ pub answer_refused_script : (leads : Program → PlainSequent → PlainStep → 
 answer_refused_script leads causes words contents status text (usage none) is = absurd cc
 answer_refused_script leads causes words contents status text (long_proof proof file bytes are told past) is = absurd cc
 answer_refused_script leads causes words contents status text (long_file proof file proof_bytes bytes are proof_told within told past) is = absurd cc
-answer_refused_script leads causes words contents status text (no_program proof file proof_bytes file_bytes read none) is = absurd cc
+answer_refused_script leads causes words contents status text (refused_source proof file proof_bytes file_bytes r read holds) is = absurd cc
+answer_refused_script leads causes words contents status text (no_program proof file proof_bytes file_bytes read is_file none) is = absurd cc
 answer_refused_script leads causes words contents status text (no_script proof file proof_bytes file_bytes q read reads none) is =
     record { proof = proof; file = file; proof_bytes = proof_bytes; file_bytes = file_bytes; program = q; read = read; java_ = reads; no_script = none }
 answer_refused_script leads causes words contents status text (long_report proof file proof_bytes file_bytes q s status' text' read reads script_reads report past) is = absurd cc
@@ -113,7 +119,8 @@ answer_limit leads causes words contents status text (long_proof proof file byte
     outcome.long_proof proof file bytes are told past
 answer_limit leads causes words contents status text (long_file proof file proof_bytes bytes are proof_told within told past) is =
     outcome.long_file proof file bytes are told past
-answer_limit leads causes words contents status text (no_program proof file proof_bytes file_bytes read none) is = absurd cc
+answer_limit leads causes words contents status text (refused_source proof file proof_bytes file_bytes r read holds) is = absurd cc
+answer_limit leads causes words contents status text (no_program proof file proof_bytes file_bytes read is_file none) is = absurd cc
 answer_limit leads causes words contents status text (no_script proof file proof_bytes file_bytes q read reads none) is = absurd cc
 answer_limit leads causes words contents status text (long_report proof file proof_bytes file_bytes q s status' text' read reads script_reads report past) is =
     outcome.long_report q s status' text' (record { proof = proof; file = file; proof_bytes = proof_bytes; file_bytes = file_bytes; read = read; java_ = reads; script_ = script_reads }) report past

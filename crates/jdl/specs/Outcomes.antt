@@ -6,11 +6,11 @@ use Rattle.jd_model.specs.Sequents.{PlainSequent}
 use Rattle.jd_sequent.specs.Trees.{PlainStep, ProofTree}
 use Rattle.jd_sequent.specs.Derives.{Derives}
 use Rattle.jd_first_java.specs.Programs.{Program}
-use Rattle.jd_first_java.specs.Reads as java
 use Rattle.jd_first_script.specs.Scripts as script
 use Rattle.jd_first_script.specs.Scripts.{PlainScript, OneProof}
 use Rattle.jd_first_oblig.specs.Obligations.{obligation_name, obligation_sequent}
 use Rattle.jdl.specs.Words.{replay_words}
+use Rattle.jdl.specs.Sources.{IsProgramFile, HasNoProgram}
 use Rattle.jdl.specs.Reports.{IsReport}
 use Rattle.jdl.specs.Answers.{proof_limit, file_limit, report_limit, AreRead, IsAnswer}
 use Rattle.jdl.specs.declared.status.Status.{Status}
@@ -55,7 +55,7 @@ pub record AreUnderstood (words : List (List ℕ)) (contents : List ℕ → Opti
   pub proof_bytes : List ℕ
   pub file_bytes : List ℕ
   pub read : AreRead words contents proof file proof_bytes file_bytes
-  pub java_ : java.Reads file_bytes program
+  pub java_ : IsProgramFile file_bytes program
   pub script_ : script.Reads (obligation_name program) proof_bytes plain
 
 -- the proof derives the obligation's sequent, and leaves nothing to be shown
@@ -72,14 +72,14 @@ pub record IsNotAccepted (leads : Program → PlainSequent → PlainStep → Lis
   pub understood : AreUnderstood words contents program plain
   pub not_derived : (tree : ProofTree) → plain ≡ OneProof tree → Derives (leads program) tree (obligation_sequent program) [] → ⊥
 
--- the Java file is no program
+-- the Java file is not read, or its form has no obligation yet
 pub record IsSourceRefused (words : List (List ℕ)) (contents : List ℕ → Option (List ℕ)) : Type 0 where
   pub proof : List ℕ
   pub file : List ℕ
   pub proof_bytes : List ℕ
   pub file_bytes : List ℕ
   pub read : AreRead words contents proof file proof_bytes file_bytes
-  pub no_program : (q : Program) → java.Reads file_bytes q → ⊥
+  pub no_program : HasNoProgram file_bytes
 
 -- the Java file is a program, and the proof file is no script of its obligation
 pub record IsScriptRefused (words : List (List ℕ)) (contents : List ℕ → Option (List ℕ)) : Type 0 where
@@ -89,7 +89,7 @@ pub record IsScriptRefused (words : List (List ℕ)) (contents : List ℕ → Op
   pub file_bytes : List ℕ
   pub program : Program
   pub read : AreRead words contents proof file proof_bytes file_bytes
-  pub java_ : java.Reads file_bytes program
+  pub java_ : IsProgramFile file_bytes program
   pub no_script : (s : PlainScript) → script.Reads (obligation_name program) proof_bytes s → ⊥
 
 -- the proof file, the Java file or the report is too long

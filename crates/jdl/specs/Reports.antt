@@ -1,6 +1,8 @@
 -- What the program prints, and when.
 use Rattle.std.specs.Prelude.{◌≡◌, ℕ, ◌<◌, List, [], ◌∷◌, ◌++◌, length, codes}
 use Rattle.std.specs.Fmt.{decimal}
+use Rattle.jd_lex.specs.Parts.{Fault, BadByte, OpenComment, BigLiteral}
+use Rattle.jd_source.specs.Sources.{Reason, Faulty, Unsupported, NoFile, TooDeep}
 use Rattle.jd_model.specs.Sequents.{PlainSequent}
 use Rattle.jd_sequent.specs.Trees.{PlainStep, ProofTree, steps_in}
 use Rattle.jd_sequent.specs.Derives.{Derives}
@@ -23,8 +25,28 @@ line text = text ++ (10 ∷ [])
 abbrev pub usage_text : List ℕ
 usage_text = line (codes "usage: jdl COMMAND ARGUMENT..")
 
-abbrev pub refused_text : List ℕ → List ℕ
-refused_text file = line (codes "refused " ++ (file ++ codes " Unbuilt at 0"))
+-- of a file whose form has no obligation yet
+abbrev pub unbuilt_text : List ℕ → List ℕ
+unbuilt_text file = line (codes "refused " ++ (file ++ codes " Unbuilt at 0"))
+
+-- a kind of refusal, and its place in the file
+abbrev pub placed_text : List ℕ → ℕ → List ℕ
+placed_text kind at = kind ++ (codes " at " ++ decimal at)
+
+abbrev pub fault_text : Fault → List ℕ
+fault_text (BadByte at) = placed_text (codes "BadByte") at
+fault_text (OpenComment at) = placed_text (codes "OpenComment") at
+fault_text (BigLiteral at) = placed_text (codes "BigLiteral") at
+
+-- why a file is not read; a token that is not supported is named
+abbrev pub reason_text : Reason → List ℕ
+reason_text (Faulty fault) = fault_text fault
+reason_text (Unsupported at what) = placed_text (codes "Unsupported") at ++ (32 ∷ what)
+reason_text (NoFile at) = placed_text (codes "Syntax") at
+reason_text (TooDeep at) = placed_text (codes "TooDeep") at
+
+abbrev pub refusal_text : List ℕ → Reason → List ℕ
+refusal_text file reason = line (codes "refused " ++ (file ++ (32 ∷ reason_text reason)))
 
 abbrev pub proof_limit_text : List ℕ
 proof_limit_text = line (codes "limit proof-bytes 16777216")

@@ -1,4 +1,4 @@
-ghost use Rattle.std.specs.Prelude.{◌≡◌, ◌<◌, ◌≤◌, ℕ, List, Option, length, Some, None, IfOk, OnOk, IsErrOf, MatchOption, map};
+ghost use Rattle.std.specs.Prelude.{◌≡◌, ◌<◌, ◌≤◌, ℕ, List, Option, length, Some, None, IfOk, IfSome, OnOk, IsErrOf, MatchOption, map};
 ghost use Rattle.std.specs.Option.{ForSome};
 ghost use Rattle.jd_base.specs.Faults.{Rose, SameCounts, SameContents};
 ghost use Rattle.jd_sequent.specs.Trees.{tree_of};
@@ -10,15 +10,16 @@ ghost use Rattle.jd_first_script.specs.Scripts.{script_view};
 ghost use Rattle.jd_first_oblig.specs.Obligations.{obligation_name, obligation_sequent};
 ghost use Rattle.jdl.specs.Words.{word_texts, replay_words};
 ghost use Rattle.jdl.specs.Reports.{IsReport, report_limit_text};
-ghost use Rattle.jdl.specs.Answers.{AcceptsObligations, leads_of, causes_of, report_limit, AreRead, IsAnswer, IsTold};
+ghost use Rattle.jdl.specs.Answers.{AcceptsObligations, leads_of, causes_of, file_limit, report_limit, AreRead, IsAnswer, SameAnswer, IsTold};
 ghost use Rattle.jdl.specs.Statuses.{IsJudged, IsWritten};
 ghost use Rattle.jdl.specs.Outcomes.{IsReadFault, HasMoreFaults};
 ghost use Rattle.jdl.specs.declared.status.Status.{Status};
 ghost use Rattle.jdl.specs.declared.answer.Stop.TheVariants.{NoMemory as OutOfMemory};
 
+use crate::java::refused;
 use crate::report::{missing, status_of, text_of};
 use crate::status::Status;
-use crate::text::{file_too_long, proof_too_long, refused, report_too_long, usage};
+use crate::text::{file_too_long, proof_too_long, report_too_long, unbuilt, usage};
 use crate::words::{ReplayFiles, replay_files};
 use jd_base::{Library, NoMemory, ReadRefusal, read_whole};
 use jd_first_java::{Program, read_program};
@@ -26,6 +27,7 @@ use jd_first_oblig::{contracts, name_of, obligation};
 use jd_first_script::{Script, read_script};
 use jd_replay::{Verdict, replay};
 use jd_sequent::{RuleSet, ScriptTree, Task};
+use jd_source::one_source;
 use std::alloc::Global;
 
 /// The greatest length of a proof file in bytes.
@@ -136,22 +138,29 @@ fn judged<R: RuleSet>(
     file: &[u8],
 ) -> Result<Answer, NoMemory>
     requires accepts { AcceptsObligations (R.accepts rules.now) }
+    requires within { length file.now ≤ file_limit }
     ensures answer { IfOk result (λ a. (words : List (List ℕ)) (contents : List ℕ → Option (List ℕ))
         → AreRead words contents files.now.proof.now files.now.file.now proof.now file.now
         → IsAnswer (leads_of (R.instance rules.now)) (causes_of (R.cause rules.now)) words contents a.status a.text.items) }
     ensures status { IfOk result (λ a. IsJudged a.status) }
 {
+    if let Some(text) = refused(alloc, files.file.as_bytes(), file)? {
+        return Ok(Answer {
+            status: Status::RefusedSource,
+            text,
+        });
+    }
     let Some(program) = read_program(alloc, file)? else {
         return Ok(Answer {
             status: Status::RefusedSource,
-            text: refused(alloc, files.file.as_bytes())?,
+            text: unbuilt(alloc, files.file.as_bytes())?,
         });
     };
     let name = name_of(alloc, &program)?;
     let Some(script) = read_script(alloc, proof, &name)? else {
         return Ok(Answer {
             status: Status::RefusedScript,
-            text: refused(alloc, files.proof.as_bytes())?,
+            text: unbuilt(alloc, files.proof.as_bytes())?,
         });
     };
     let report = replayed(alloc, rules, &program, &script)?;
@@ -168,6 +177,7 @@ fn read_within<L: Library>(
 ) -> Result<Option<Vec<u8>>, Stop>
     ensures read { IfOk result (λ r. ForSome (L.contents library.old name.now)
         (λ told. MatchOption r (limit < length told) (λ v. (v.items ≡ told) × (length told ≤ limit)))) }
+    ensures within { IfOk result (λ r. IfSome r (λ v. length v.items ≤ limit)) }
     ensures kept { SameContents (L.contents library.old) (L.contents library.new) }
 
     ensures fault { IsErrOf result Stop.ReadFault
@@ -230,10 +240,12 @@ pub fn answer_to<R: RuleSet, L: Library>(
     Ok(judged(alloc, rules, &files, &proof, &file)?)
 }
 
-/// Words and contents have one answer.
+/// Words and contents have one answer, up to the place of a Java file that is none, or that nests too deep.
 pub fn one_answer<R: RuleSet>(_rules: &R)
     ensures { (words : List (List ℕ)) (contents : List ℕ → Option (List ℕ)) (status other : Status) (text another : List ℕ)
         → IsAnswer (leads_of (R.instance _rules.now)) (causes_of (R.cause _rules.now)) words contents status text
         → IsAnswer (leads_of (R.instance _rules.now)) (causes_of (R.cause _rules.now)) words contents other another
-        → (status ≡ other) × (text ≡ another) }
-{}
+        → SameAnswer status text other another }
+{
+    one_source();
+}

@@ -2,6 +2,7 @@
 #![tactic(auto)]
 
 mod answer;
+mod java;
 mod report;
 mod run;
 mod status;

@@ -1,7 +1,7 @@
 use crate::report::{missing, text_of};
 use crate::run::run;
 use crate::status::Status;
-use crate::text::{add_decimal, file_too_long, proof_too_long, refused, report_too_long, usage};
+use crate::text::{add_decimal, file_too_long, proof_too_long, report_too_long, unbuilt, usage};
 use crate::words::replay_files;
 use jd_base::{MemoryLibrary, MemorySink};
 use jd_replay::{Cause, Verdict};
@@ -73,7 +73,7 @@ fn lines(rt: HostRuntime) -> Result<(), Fail> {
         b"usage: jdl COMMAND ARGUMENT..\n".as_slice()
     );
     assert_eq!(rt;
-        refused(alloc, b"A.java")?.as_slice(),
+        unbuilt(alloc, b"A.java")?.as_slice(),
         b"refused A.java Unbuilt at 0\n".as_slice()
     );
     assert_eq!(rt;
@@ -343,12 +343,94 @@ fn long_files(rt: HostRuntime) -> Result<(), Fail> {
 #[test]
 fn refuses_other_java(rt: HostRuntime) -> Result<(), Fail> {
     let alloc = rt.alloc();
-    let (ended, told) = replayed(alloc, NO_PROOF, b"class T { int f; }", &[], &[])?;
-    assert_eq!(rt;
-        told.as_slice(),
-        b"refused T.java Unbuilt at 0\n".as_slice()
-    );
-    assert_eq!(rt; ended.code(), 5);
+    for (java, want) in [
+        (
+            b"class T { int f; }".as_slice(),
+            b"refused T.java Unbuilt at 0\n".as_slice(),
+        ),
+        (
+            b"class T { double d; }".as_slice(),
+            b"refused T.java Unsupported at 10 double\n".as_slice(),
+        ),
+        (
+            b"class T { T } byte".as_slice(),
+            b"refused T.java Unsupported at 14 byte\n".as_slice(),
+        ),
+        (
+            b"class T { int f() { return 1 & 2; } }".as_slice(),
+            b"refused T.java Unsupported at 29 &\n".as_slice(),
+        ),
+        (
+            b"class T { double d; # }".as_slice(),
+            b"refused T.java BadByte at 20\n".as_slice(),
+        ),
+        (
+            b"class T { /* }".as_slice(),
+            b"refused T.java OpenComment at 10\n".as_slice(),
+        ),
+        (
+            b"class T { int f() { return 2147483649; } }".as_slice(),
+            b"refused T.java BigLiteral at 27\n".as_slice(),
+        ),
+        (
+            b"class T { int f() { return 2147483648; } }".as_slice(),
+            b"refused T.java Syntax at 27\n".as_slice(),
+        ),
+        (
+            b"class T { int f() { return -2147483648; } }".as_slice(),
+            b"refused T.java Unbuilt at 0\n".as_slice(),
+        ),
+        (
+            b"class T { T }".as_slice(),
+            b"refused T.java Syntax at 12\n".as_slice(),
+        ),
+        (
+            b"class T {".as_slice(),
+            b"refused T.java Syntax at 9\n".as_slice(),
+        ),
+        (
+            b"class T { int f() { return /*@ x @*/ 1; } }".as_slice(),
+            b"refused T.java Syntax at 31\n".as_slice(),
+        ),
+        (
+            b"class T { /*@ requires (@ x; @*/ int f() { return 1; } }".as_slice(),
+            b"refused T.java Unbuilt at 0\n".as_slice(),
+        ),
+    ] {
+        let (ended, told) = replayed(alloc, NO_PROOF, java, &[], &[])?;
+        assert_eq!(rt; told.as_slice(), want);
+        assert_eq!(rt; ended.code(), 5);
+    }
+    Ok(())
+}
+
+// `IDENTITY` with what it returns in so many pairs of parentheses
+fn in_parentheses(alloc: Global, pairs: u32) -> Result<Vec<u8>, AllocError> {
+    let mut java =
+        b"class T { /*@ ensures \\result == x; @*/ static int id(int x) { return ".to_vec(alloc)?;
+    for _ in 0..pairs {
+        java.push(b'(')?;
+    }
+    java.push(b'x')?;
+    for _ in 0..pairs {
+        java.push(b')')?;
+    }
+    java.extend_from_slice(b"; } }")?;
+    Ok(java)
+}
+
+#[test]
+fn refuses_what_nests_too_deep(rt: HostRuntime) -> Result<(), Fail> {
+    let alloc = rt.alloc();
+    for (pairs, want) in [
+        (200, b"refused T.java Unbuilt at 0\n".as_slice()),
+        (201, b"refused T.java TooDeep at 472\n".as_slice()),
+    ] {
+        let java = in_parentheses(alloc, pairs)?;
+        let (ended, told) = replayed(alloc, IDENTITY_PROOF, &java, &[], &[])?;
+        assert_eq!(rt; told.as_slice(), want);
+        assert_eq!(rt; ended.code(), 5);
+    }
     Ok(())
 }
 

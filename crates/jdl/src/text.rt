@@ -1,6 +1,6 @@
 ghost use Rattle.std.specs.Prelude.{◌≡◌, ◌++◌, IfOk, OnOk};
 ghost use Rattle.std.specs.Fmt.{decimal};
-ghost use Rattle.jdl.specs.Reports.{line, usage_text, refused_text, proof_limit_text, file_limit_text, report_limit_text};
+ghost use Rattle.jdl.specs.Reports.{line, usage_text, unbuilt_text, proof_limit_text, file_limit_text, report_limit_text};
 
 use jd_base::{NoMemory, copy_bytes};
 use std::alloc::Global;
@@ -51,9 +51,9 @@ pub fn report_too_long(alloc: Global) -> Result<Vec<u8>, NoMemory>
     line_of(alloc, b"limit report 67108864")
 }
 
-/// The line for a file that is refused.
-pub fn refused(alloc: Global, file: &[u8]) -> Result<Vec<u8>, NoMemory>
-    ensures { IfOk result (λ v. v.items ≡ refused_text file.now) }
+/// The line for a file of a form that has no obligation yet.
+pub fn unbuilt(alloc: Global, file: &[u8]) -> Result<Vec<u8>, NoMemory>
+    ensures { IfOk result (λ v. v.items ≡ unbuilt_text file.now) }
 {
     let mut out = copy_bytes(alloc, b"refused ")?;
     out.extend_from_slice(file)?;
