@@ -1,0 +1,10 @@
+mod Aboves
+mod Counting
+mod Disagreeing
+mod Firsts
+mod ItemFacts
+mod Links
+mod Orders
+mod Searching
+mod Steps
+mod Walks
