@@ -1,3 +1,4 @@
 mod Numbers
 mod Refusals
 mod Seen
+mod Worked

@@ -1,5 +1,6 @@
 pub mod CallGraph
 pub mod Classes
+pub mod Examples
 pub mod Laws
 pub mod Members
 pub mod Methods
