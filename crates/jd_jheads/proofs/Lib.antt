@@ -1,0 +1,6 @@
+mod ClassLists
+mod NameSets
+mod NewNames
+mod NodeCycles
+mod Standing
+mod Supers

@@ -1,0 +1,4 @@
+pub mod Firsts
+pub mod Heads
+pub mod Names
+pub mod Placed
