@@ -4,4 +4,5 @@ pub mod Examples
 pub mod Laws
 pub mod Members
 pub mod Methods
+pub mod Numbers
 pub mod Refusals
