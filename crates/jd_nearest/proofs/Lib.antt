@@ -1,0 +1,4 @@
+mod Cells
+mod Filling
+mod Inheriting
+mod Sorting

@@ -1,0 +1,4 @@
+pub mod Laws
+pub mod Nearest
+pub mod Orders
+pub mod Rows
