@@ -2,3 +2,4 @@ mod Cells
 mod Filling
 mod Inheriting
 mod Sorting
+pub mod Standing

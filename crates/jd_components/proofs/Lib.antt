@@ -1,0 +1,5 @@
+mod Linking
+mod Numbers
+mod Tops
+mod Tying
+mod Uniqueness

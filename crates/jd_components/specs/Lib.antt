@@ -1,0 +1,4 @@
+pub mod Components
+pub mod Laws
+pub mod Numberings
+pub mod Roots
