@@ -1,0 +1,3 @@
+mod Encodings
+mod Numberings
+mod TextSets
