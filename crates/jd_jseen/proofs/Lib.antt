@@ -1,0 +1,8 @@
+mod Columns
+mod Listed
+pub mod Nodes
+pub mod Routines
+mod Seeing
+mod Tables
+mod Worked
+mod Writing

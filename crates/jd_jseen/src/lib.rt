@@ -1,0 +1,11 @@
+//! Which method of each name, and which constructor, each class of a program sees.
+#![tactic(auto)]
+
+mod laws;
+mod own;
+mod seen;
+#[cfg(test)]
+mod tests;
+
+pub use laws::{numbers_of_classes, numbers_of_routines};
+pub use seen::{Seen, seen_of};
