@@ -9,7 +9,9 @@ use std::alloc::Global;
 /// The number of the component of each node, and how many components there are.
 #[derive(Drop)]
 pub struct Components {
+    /// For each node the number of its component, below `count`.
     pub numbers: Vec<u32>,
+    /// How many components there are.
     pub count: u32,
 }
 
