@@ -1,0 +1,10 @@
+mod ClassNumbers
+mod Differing
+mod Firsts
+mod ItemLists
+mod Lists
+mod Reasons
+mod Refusing
+mod Repeating
+mod Seconds
+mod Testing

@@ -1,0 +1,4 @@
+pub mod Clashes
+pub mod Firsts
+pub mod Items
+pub mod Repeats
