@@ -4,8 +4,8 @@ use Rattle.std.proofs.lemmas.Bool.{cases_eq}
 use Rattle.std.proofs.lemmas.Option.{none-some, slice_get_within}
 use Rattle.std.specs.List.{slice_get}
 use Rattle.jd_jclasses.specs.Members.{Declared}
-use Rattle.jd_jclasses.specs.Numbers.{AreNumbers, SameReturn, SameSignature}
-use Rattle.jd_jclasses.specs.Refusals.{ClassesStand, SameName}
+use Rattle.jd_jclasses.specs.Numbers.{AreNumbers}
+use Rattle.jd_jclasses.specs.Refusals.{ClassesStand}
 use Rattle.jd_jclashes.specs.Items.{HaveClassesBelow, HaveRisingClasses}
 use Rattle.jd_jclashes.proofs.Lists.{same_at}
 

@@ -1,6 +1,4 @@
-use Rattle.std.proofs.Common.{◌≡◌, ◌↔◌, ◌<◌, ℕ, List, Some, slice_index, length, map}
-use Rattle.std.specs.List.{slice_get}
-use Rattle.jd_jclasses.specs.Members.{Declared}
+use Rattle.std.proofs.Common.{map}
 use Rattle.jd_jclasses.specs.Numbers.{SameReturn, SameSignature}
 use Rattle.jd_jclasses.specs.Refusals.{SameName}
 use Rattle.jd_jlists.specs.Views.{member_of_view}

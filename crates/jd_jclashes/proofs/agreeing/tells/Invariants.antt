@@ -1,5 +1,4 @@
-use Rattle.std.proofs.Common.{◌≡◌, ◌↔◌, ℕ, slice_index, map}
-use Rattle.jd_jclasses.specs.Members.{Declared}
+use Rattle.std.proofs.Common.{◌≡◌, ◌↔◌, slice_index, map}
 use Rattle.jd_jclasses.specs.Numbers.{SameReturn, SameSignature}
 use Rattle.jd_jclasses.specs.Refusals.{SameName}
 use Rattle.jd_jlists.specs.Views.{member_of_view}
