@@ -1,0 +1,4 @@
+pub mod Example
+pub mod Infos
+pub mod Stages
+pub mod Views
