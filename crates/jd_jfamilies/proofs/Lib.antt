@@ -1,0 +1,7 @@
+mod Classes
+mod Listing
+mod More
+mod Nearest
+mod Orders
+mod Tying
+mod Worked
