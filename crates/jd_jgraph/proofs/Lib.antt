@@ -1,0 +1,11 @@
+mod Called
+mod Constructors
+mod Counting
+mod Joined
+mod Lists
+mod Methods
+mod Positions
+mod Reaching
+mod Routines
+mod Whole
+mod Worked

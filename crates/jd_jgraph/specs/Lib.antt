@@ -1,0 +1,5 @@
+pub mod Callees
+pub mod Edges
+pub mod Examples
+pub mod Named
+pub mod Tables

@@ -1,0 +1,11 @@
+//! The call graph of the families of a program's methods: which family reaches which.
+#![tactic(auto)]
+
+mod adding;
+mod callees;
+mod closed;
+mod named;
+#[cfg(test)]
+mod tests;
+
+pub use closed::family_graph;
