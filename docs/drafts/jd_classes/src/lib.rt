@@ -1,0 +1,12 @@
+//! The tables of a program's classes: which files are no program's, and what each class declares and sees.
+#![tactic(auto)]
+
+mod build;
+mod gather;
+mod limits;
+mod refusal;
+mod standing;
+
+pub use build::Classes;
+pub use jd_jinfos::{ClassInfo, FieldInfo, MethodInfo};
+pub use refusal::ClassRefusal;
