@@ -8,3 +8,4 @@ pub mod First
 pub mod Decimals
 pub mod Slices
 pub mod Marks
+pub mod Alone

@@ -1,5 +1,6 @@
 -- The signs: separators and operators (JLS 3.11, 3.12), and those of JML (JML Reference Manual 4.6).
-use Rattle.std.specs.Prelude.{◌≡◌, ◌⊎◌, ◌≤◌, ℕ, List, [], ◌∷◌, ◌++◌, length, Bool, cond, codes}
+use Rattle.std.specs.Prelude.{◌≡◌, ◌⊎◌, ◌≤◌, ℕ, List, [], ◌∷◌, ◌++◌, length, Bool, false, cond, codes, ◌==◌}
+use Rattle.std.specs.List.{list_any}
 
 abbrev pub java_signs : List (List ℕ)
 java_signs =
@@ -34,3 +35,15 @@ pub record IsLongest (table : List (List ℕ)) (text rest : List ℕ) : Type 0 w
 -- no sign of the table stands at the head of the bytes
 abbrev pub BeginsNone : List (List ℕ) → List ℕ → Type 0
 BeginsNone table bytes = (sign : List ℕ) → Listed sign table → BeginsWith sign bytes → ⊥
+
+-- the signs of one byte with which no other begins
+abbrev pub alone : List ℕ
+alone = codes "(){}[];,~?@"
+
+abbrev pub stands_alone : ℕ → Bool
+stands_alone b = list_any (λ s. b == s) alone
+
+-- such a sign stands at the head of the bytes
+abbrev pub begins_alone : List ℕ → Bool
+begins_alone [] = false
+begins_alone (b ∷ bytes) = stands_alone b

@@ -1,4 +1,5 @@
-ghost use Rattle.std.specs.Prelude.{◌<◌, length, map};
+ghost use Rattle.std.specs.Prelude.{◌≡◌, ◌<◌, length, map};
+ghost use Rattle.jd_lex.specs.Signs as the_signs;
 ghost use Rattle.jd_lex.specs.Signs.{signs};
 ghost use Rattle.jd_lex.specs.Lens.{Longer, LongestLen};
 
@@ -43,10 +44,33 @@ fn longest_of(table: &[&[u8]], bytes: &[u8]) -> usize
     best
 }
 
+// Whether it is a sign, with which no longer one begins.
+fn stands_alone(byte: u8) -> bool
+    ensures { result ≡ the_signs.stands_alone byte }
+{
+    match byte {
+        b'(' | b')' | b'{' | b'}' | b'[' | b']' | b';' | b',' | b'~' | b'?' | b'@' => true,
+        _ => false,
+    }
+}
+
+// Whether such a sign stands at the head of the bytes.
+fn begins_alone(bytes: &[u8]) -> bool
+    ensures { result ≡ the_signs.begins_alone bytes.now }
+{
+    match bytes.first() {
+        Some(byte) => stands_alone(*byte),
+        None => false,
+    }
+}
+
 /// The length of the longest sign at the head of the bytes, or 0.
 pub fn sign_len(jml: bool, bytes: &[u8]) -> usize
     ensures { LongestLen (signs jml) bytes.now result }
 {
+    if begins_alone(bytes) {
+        return 1;
+    }
     if jml {
         longest_of(&JML_SIGNS, bytes)
     } else {
