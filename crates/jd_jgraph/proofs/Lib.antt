@@ -4,7 +4,7 @@ mod Counting
 mod Joined
 mod Lists
 mod Methods
-mod Positions
+pub mod Positions
 mod Reaching
 mod Routines
 mod Whole

@@ -151,6 +151,12 @@ module _ (transitive : AboveIsTransitive) (law : RoutinesAreMembers) (back_law :
   along e f each a b (reaches_itself _) = reaches_itself a
   along e f each a b (reaches_by_edge _ c _ h r) = reaches_by_edge a c b (each a c h) (along e f each c b r)
 
+  pub are_calls : (edges : ℕ → ℕ → Bool) → ((a b : ℕ) → Decides (edges a b) (IsEdge a b)) → AreFamilyCalls units (λ m. slice_index l.families m) edges
+  are_calls edges are_edges a b = (
+    λ e. edge_forth a b ((are_edges a b).0 e),
+    λ c. (are_edges a b).1 (edge_back a b c),
+  )
+
   pub reaches : (edges calls : ℕ → ℕ → Bool) → ((a b : ℕ) → Decides (edges a b) (IsEdge a b)) → AreFamilyCalls units (λ m. slice_index l.families m) calls → (new : Bool) (a b : ℕ) → Decides new (ReachesBy edges a b) → Decides new (ReachesBy calls a b)
   reaches edges calls are_edges are_calls new a b closed = (
     λ e. along edges calls (λ x y h. (are_calls x y).1 (edge_forth x y ((are_edges x y).0 h))) a b (closed.0 e),

@@ -1,6 +1,6 @@
 //! The call graph, closed.
 
-ghost use Rattle.std.specs.Prelude.{◌≡◌, ◌<◌, ◌≤◌, ℕ, Bool, List, map, length, slice_index, IfOk};
+ghost use Rattle.std.specs.Prelude.{◌≡◌, ◌<◌, ◌≤◌, ℕ, Bool, List, map, length, slice_index, IfOk, OnOk};
 ghost use Rattle.std.specs.Bool.{Decides};
 ghost use Rattle.std.specs.List.{All};
 ghost use Rattle.jd_jclasses.specs.CallGraph.{AreFamilyCalls};
@@ -49,6 +49,10 @@ pub fn family_graph(
     requires each { length families.now ≡ routine_count (map member_of_view members.now) }
     requires below { All (λ f. f < count) families.now }
     ensures count { IfOk result (λ g. node_count g ≡ count) }
+    ensures calls { (units : List JavaUnit)
+        → AreNamedTables units (names_of heads.now) heads.now.parents.items (map member_of_view members.now) names.now.numbers.items (name_count seen.now)
+        → AreSeen units names.now.numbers.items (name_count seen.now) (cells_of seen.now)
+        → OnOk result ((calls : ℕ → ℕ → Bool) × AreFamilyCalls units (λ m. slice_index families.now m) calls) }
     ensures reaches { (units : List JavaUnit)
         → AreNamedTables units (names_of heads.now) heads.now.parents.items (map member_of_view members.now) names.now.numbers.items (name_count seen.now)
         → AreSeen units names.now.numbers.items (name_count seen.now) (cells_of seen.now)

@@ -1,5 +1,5 @@
 -- The classes of files put together from their heads, from what they extend and from their own members.
-use Rattle.std.proofs.Common.{◌≡◌, ℕ, zero, suc, ◌+◌, ◌<◌, ◌≤◌, List, [], ◌∷◌, ◌++◌, length, map, replicate, Option, refl, ap, ap₂, ◌∙◌, arith, All}
+use Rattle.std.proofs.Common.{◌≡◌, ℕ, zero, suc, ◌+◌, ◌<◌, ◌≤◌, List, [], ◌∷◌, ◌++◌, length, map, replicate, Option, refl, sym, ap, ap₂, ◌∙◌, arith, All}
 use Rattle.std.specs.List.{AllByRecursion, enumerate_from, range_with_len}
 use Rattle.std.proofs.lemmas.List.{map-append}
 use Rattle.std.proofs.lemmas.List.Elements.{All-from_recursion}
@@ -112,3 +112,14 @@ all_classes units heads ps os are_heads are_parents are_own =
     ∙ ap (classes_of (class_heads units) (parents units)) (are_own ∙ each_own units)
     ∙ of_prelude prelude (map declared_head ds) (map (λ d. parent_by (class_names units) d.tree.parent) ds) rest
     ∙ ap (λ (l : List PlainClassInfo). map prelude_info prelude ++ l) (of_files units prelude_count ds)
+
+-- ---- what the classes declare themselves
+
+own_from_place : (units : List JavaUnit) (n : ℕ) (ds : List DeclaredClass)
+    → map (λ i. i.own) (map (declared_info units) (enumerate_from n ds)) ≡ map (own_of (declared_members units)) (range_with_len n (length ds))
+own_from_place units n [] = refl
+own_from_place units n (d ∷ ds) = ap (λ (l : List PlainOwnMembers). own_of (declared_members units) n ∷ l) (own_from_place units (n + 1) ds)
+
+-- each class has what it declares itself, also one that is always there
+pub own_in_infos : (units : List JavaUnit) → map (λ i. i.own) (class_infos units) ≡ own_of_each (declared_members units) (prelude_count + length (declared_classes units))
+own_in_infos units = ap (λ (l : List PlainOwnMembers). replicate prelude_count own_nothing ++ l) (own_from_place units prelude_count (declared_classes units)) ∙ sym (each_own units)

@@ -1,0 +1,9 @@
+mod Counting
+mod FewFamilies
+mod FieldLists
+mod Gathering
+mod Lineages
+mod Looking
+mod NoCycle
+mod Refusing
+mod SmallTrees

@@ -1,0 +1,4 @@
+pub mod Fields
+pub mod Refusals
+pub mod Tables
+pub mod Small
