@@ -1,9 +1,8 @@
 -- The line for a Java file that is refused.
 use Rattle.std.proofs.Common.{◌≡◌, ℕ, List, ◌++◌, [], ◌∷◌, codes, Option, Some, None, ap, ◌∙◌, append_assoc}
-use Rattle.std.specs.Prelude.{IfSome, MatchOption}
-use Rattle.jd_source.specs.Sources.{Reason, IsReason}
+use Rattle.std.specs.Prelude.{MatchOption}
+use Rattle.jd_source.specs.Sources.{Reason}
 use Rattle.jdl.specs.Reports.{line, reason_text, refusal_text}
-use Rattle.jdl.specs.Sources.{IsRefusedFile}
 
 -- a token's text behind a blank
 pub named_last : (old placed what one two three : List ℕ) → one ≡ old ++ placed → two ≡ one ++ (32 ∷ []) → three ≡ two ++ what → three ≡ old ++ (placed ++ (32 ∷ what))
@@ -18,7 +17,3 @@ line_of_parts name why a b c d e first second third fourth fifth =
 pub told : (o : Option Reason) (name a b c d e : List ℕ) → a ≡ codes "refused " → b ≡ a ++ name → c ≡ b ++ (32 ∷ []) → MatchOption o ⊥ (λ r. d ≡ c ++ reason_text r) → e ≡ d ++ (10 ∷ []) → MatchOption o ⊥ (λ r. e ≡ refusal_text name r)
 told (Some r) name a b c d e first second third fourth fifth = line_of_parts name (reason_text r) a b c d e first second third fourth fifth
 told None name a b c d e first second third fourth fifth = fourth
-
-pub is_refused : (o : Option Reason) (name bytes text : List ℕ) → IfSome o (IsReason bytes) → MatchOption o ⊥ (λ r. text ≡ refusal_text name r) → IsRefusedFile name bytes text
-is_refused (Some r) name bytes text holds told = record { reason = r; holds = holds; told = told }
-is_refused None name bytes text holds told = absurd told

@@ -1,7 +1,8 @@
 -- The answer is determined: its status and its text, up to the place of a Java file that is none, or that nests too deep.
-use Rattle.std.proofs.Common.{◌≡◌, ◌<◌, ◌≤◌, ℕ, List, [], length, Option, Some, None, ap, sym, refl, subst, ◌∙◌, arith}
-use Rattle.jd_source.specs.Sources.{Reason, IsReason}
-use Rattle.jd_source.specs.Laws.{OneSource}
+use Rattle.std.proofs.Common.{◌≡◌, ◌<◌, ◌≤◌, ℕ, List, [], ◌∷◌, length, Option, Some, None, ap, sym, refl, subst, ◌∙◌, arith}
+use Rattle.std.specs.List.{All}
+use Rattle.std.proofs.lemmas.List.Elements.{All-cons, All-head, All-nil}
+use Rattle.std.proofs.lemmas.Option.{none-some, same_Some}
 use Rattle.jd_model.specs.Sequents.{PlainSequent}
 use Rattle.jd_sequent.specs.Trees.{PlainStep, steps_in}
 use Rattle.jd_sequent.specs.Derives.{Derives}
@@ -15,12 +16,17 @@ use Rattle.jd_first_script.specs.Scripts.{PlainScript}
 use Rattle.jd_first_script.proofs.Files.{one_script}
 use Rattle.jd_first_oblig.specs.Obligations.{obligation_name, obligation_sequent}
 use Rattle.jdl.specs.Words.{replay_words}
-use Rattle.jdl.specs.Sources.{IsFile, IsProgramFile}
-use Rattle.jdl.specs.Reports.{IsReport, missing, closed, opened, broken, closed_text, open_text, bad_text, usage_text, unbuilt_text, refusal_text, proof_limit_text, file_limit_text}
-use Rattle.jdl.specs.Answers.{proof_limit, file_limit, AreRead, IsAnswer, usage, long_proof, long_file, refused_source, no_program, no_script, long_report, replayed, SameAnswer, equal, refused_alike}
+use Rattle.jd_files.specs.Files.{file_limit, files_limit}
+use Rattle.jd_files.specs.Laws.{OneFilesRefusal}
+use Rattle.jdl.specs.FileAnswers.{IsRefusal}
+use Rattle.jdl.specs.Sources.{AreProgram}
+use Rattle.jdl.specs.Reports.{IsReport, missing, closed, opened, broken, closed_text, open_text, bad_text, usage_text, unbuilt_text, files_limit_text, proof_limit_text, file_limit_text}
+use Rattle.jdl.specs.Answers.{proof_limit, report_limit, HaveBytes, HaveLongFile, IsProofRead, AreRead, IsProofAnswer, no_script, long_report, replayed, IsAnswer, usage, many_files, long_proof, long_file, refused, judged, SameAnswer, equal}
 use Rattle.jdl.specs.declared.status.Status.{Status}
-use Rattle.jdl.specs.declared.status.Status.TheVariants.{Usage, RefusedSource, RefusedScript, Limit}
+use Rattle.jdl.specs.declared.status.Status.TheVariants.{Usage, RefusedScript, Limit}
 use Rattle.jdl.proofs.Derivations.{OneWay, HasNoCause, one_derivation}
+use Rattle.jdl.proofs.Files.{none_long, one_list}
+use Rattle.jdl.proofs.FileAnswers.{no_program, one_refusal}
 use Rattle.jdl.proofs.Lengths.{length-report, length-name}
 
 -- ---- one report
@@ -65,171 +71,148 @@ one_report leads causes way free name goal s status other text another (broken t
     let same = one_first_bad leads causes way free tree' goal node node' cause cause' (subst (λ t. FirstBad leads causes t goal node cause) trees first) first' in
     (refl, ap (λ n. bad_text name n cause) same.0 ∙ ap (bad_text name node') same.1)
 
--- ---- files that are read
+-- ---- one answer for a program and a proof file
 
-same_files : (words : List (List ℕ)) (proof file proof' file' : List ℕ) → replay_words words ≡ Some (proof, file) → replay_words words ≡ Some (proof', file') → (proof ≡ proof') × (file ≡ file')
-same_files words proof file proof' file' one other =
-    let both = sym one ∙ other in
-    let pair : ◌≡◌ {A = List ℕ × List ℕ} (proof, file) (proof', file') = cc in
+pub same_by : (status other : Status) (text another : List ℕ) → (status ≡ other) × (text ≡ another) → SameAnswer status text other another
+same_by status other text another both = rw (both.0, both.1) (equal other another)
+
+module _ (leads : PlainSequent → PlainStep → List PlainSequent → Type 0) (causes : PlainSequent → PlainStep → ℕ → Type 0) (way : OneWay leads) (free : HasNoCause leads causes) (file : List ℕ) (q : Program) (of_file : java.Reads file q) (small : length file ≤ file_limit) (proof bytes : List ℕ) where
+  no_long_report : (s : PlainScript) (status : Status) (text : List ℕ) → IsReport leads causes (obligation_name q) (obligation_sequent q) s status text → report_limit < length text → ⊥
+  no_long_report s status text is past =
+      let few = length-report leads causes (obligation_name q) (obligation_sequent q) s status text is in
+      let short = length-name file q of_file in
+      omega (arith, few, short, small)
+
+  one_proof_answer : (status other : Status) (text another : List ℕ) → IsProofAnswer leads causes q proof bytes status text → IsProofAnswer leads causes q proof bytes other another → SameAnswer status text other another
+  one_proof_answer status other text another (no_script none) (no_script none') = equal RefusedScript (unbuilt_text proof)
+  one_proof_answer status other text another (no_script none) (long_report s status' text' reads report past) = absurd (none s reads)
+  one_proof_answer status other text another (no_script none) (replayed s _ _ reads report within) = absurd (none s reads)
+  one_proof_answer status other text another (long_report s status' text' reads report past) again = absurd (no_long_report s status' text' report past)
+  one_proof_answer status other text another (replayed s _ _ reads report within) (no_script none) = absurd (none s reads)
+  one_proof_answer status other text another (replayed s _ _ reads report within) (long_report s' status' text' reads' report' past) = absurd (no_long_report s' status' text' report' past)
+  one_proof_answer status other text another (replayed s _ _ reads report within) (replayed s' _ _ reads' report' within') =
+      let scripts = one_script (obligation_name q) bytes s' s reads' reads in
+      same_by status other text another (one_report leads causes way free (obligation_name q) (obligation_sequent q) s status other text another report (subst (λ t. IsReport leads causes (obligation_name q) (obligation_sequent q) t other another) scripts report'))
+
+-- ---- one answer for words that name files
+
+abbrev OneProgramAnswer : (Program → PlainSequent → PlainStep → List PlainSequent → Type 0) → (Program → PlainSequent → PlainStep → ℕ → Type 0) → Type 0
+OneProgramAnswer leads causes = ((q : Program) → OneWay (leads q)) × ((q : Program) → HasNoCause (leads q) (causes q))
+
+same_words : (words : List (List ℕ)) (p p' : List ℕ) (ns ns' : List (List ℕ)) → replay_words words ≡ Some (p, ns) → replay_words words ≡ Some (p', ns') → (p ≡ p') × (ns ≡ ns')
+same_words words p p' ns ns' one other =
+    let pair : ◌≡◌ {A = List ℕ × List (List ℕ)} (p, ns) (p', ns') = same_Some (p, ns) (p', ns') (sym one ∙ other) in
     (ap (λ x. x.0) pair, ap (λ x. x.1) pair)
 
 same_bytes : (contents : List ℕ → Option (List ℕ)) (name name' bytes bytes' : List ℕ) → name ≡ name' → contents name ≡ Some bytes → contents name' ≡ Some bytes' → bytes ≡ bytes'
-same_bytes contents name name' bytes bytes' same one other = cc
+same_bytes contents name name' bytes bytes' same one other = same_Some bytes bytes' (sym one ∙ ap contents same ∙ other)
 
--- what is said of the bytes of both files, which have these names
-pub data IsJudgedAs (leads : Program → PlainSequent → PlainStep → List PlainSequent → Type 0) (causes : Program → PlainSequent → PlainStep → ℕ → Type 0) (p f proof_bytes file_bytes : List ℕ) : Status → List ℕ → Type 0 where
-  unread : (r : Reason) → IsReason file_bytes r → IsJudgedAs leads causes p f proof_bytes file_bytes RefusedSource (refusal_text f r)
-  source : IsFile file_bytes → ((q : Program) → java.Reads file_bytes q → ⊥) → IsJudgedAs leads causes p f proof_bytes file_bytes RefusedSource (unbuilt_text f)
-  proof : (q : Program) → IsProgramFile file_bytes q → ((s : PlainScript) → script.Reads (obligation_name q) proof_bytes s → ⊥) → IsJudgedAs leads causes p f proof_bytes file_bytes RefusedScript (unbuilt_text p)
-  report : (q : Program) (s : PlainScript) (status : Status) (text : List ℕ) → IsProgramFile file_bytes q → script.Reads (obligation_name q) proof_bytes s → IsReport (leads q) (causes q) (obligation_name q) (obligation_sequent q) s status text → IsJudgedAs leads causes p f proof_bytes file_bytes status text
+-- what is said of files that are read
+pub data IsJudgedAs (leads : Program → PlainSequent → PlainStep → List PlainSequent → Type 0) (causes : Program → PlainSequent → PlainStep → ℕ → Type 0) (proof bytes : List ℕ) (names files : List (List ℕ)) : Status → List ℕ → Type 0 where
+  not_understood : (status : Status) (text : List ℕ) → IsRefusal names files status text → IsJudgedAs leads causes proof bytes names files status text
+  answered : (q : Program) (status : Status) (text : List ℕ) → AreProgram files q → IsProofAnswer (leads q) (causes q) q proof bytes status text → IsJudgedAs leads causes proof bytes names files status text
 
-no_reason : OneSource → (bytes : List ℕ) (r : Reason) → IsFile bytes → IsReason bytes r → ⊥
-no_reason law bytes r file holds = law.not_refused bytes file.tree r file.source holds
+module _ (leads : Program → PlainSequent → PlainStep → List PlainSequent → Type 0) (causes : Program → PlainSequent → PlainStep → ℕ → Type 0) (one : OneProgramAnswer leads causes) (laws : OneFilesRefusal) where
+  one_judgement : (proof bytes : List ℕ) (names files : List (List ℕ)) (status other : Status) (text another : List ℕ) → All (λ f. length f ≤ file_limit) files → IsJudgedAs leads causes proof bytes names files status text → IsJudgedAs leads causes proof bytes names files other another → SameAnswer status text other another
+  one_judgement proof bytes names files status other text another small (not_understood _ _ refusal) (not_understood _ _ refusal') = one_refusal laws names files status other text another refusal refusal'
+  one_judgement proof bytes names files status other text another small (not_understood _ _ refusal) (answered q _ _ program answer) = absurd (no_program laws names files status text q refusal program)
+  one_judgement proof bytes names files status other text another small (answered q _ _ program answer) (not_understood _ _ refusal) = absurd (no_program laws names files other another q refusal program)
+  one_judgement proof bytes names files status other text another small (answered q _ _ program answer) (answered q' _ _ program' answer') =
+      let files_same : program.file ∷ [] ≡ program'.file ∷ [] = sym program.one ∙ program'.one in
+      let same : program'.file ≡ program.file = let back = sym files_same in cc in
+      let programs : q' ≡ q = one_meaning program.file q' q (subst (λ b. java.Reads b q') same program'.reads) program.reads in
+      let within = All-head (λ f. length f ≤ file_limit) program.file [] (subst (All (λ f. length f ≤ file_limit)) program.one small) in
+      one_proof_answer (leads q) (causes q) (one.0 q) (one.1 q) program.file q program.reads within proof bytes status other text another answer
+      (subst (λ p. IsProofAnswer (leads p) (causes p) p proof bytes other another) programs answer')
 
-same_by : (status other : Status) (text another : List ℕ) → (status ≡ other) × (text ≡ another) → SameAnswer status text other another
-same_by status other text another both = rw (both.0, both.1) (equal other another)
+  module _ (words : List (List ℕ)) (contents : List ℕ → Option (List ℕ)) where
+    -- files that are read have one list of contents
+    judged_as : (p pb : List ℕ) (ns fs : List (List ℕ)) (status : Status) (text : List ℕ) → AreRead words contents p ns pb fs → IsAnswer leads causes words contents status text → IsJudgedAs leads causes p pb ns fs status text
+    judged_as p pb ns fs status text read (usage none) = absurd (none-some (p, ns) (sym none ∙ read.proof_read.words_))
+    judged_as p pb ns fs status text read (many_files p' ns' are many) =
+        let same = same_words words p p' ns ns' read.proof_read.words_ are in
+        absurd (omega (arith, ap length same.1, many, read.proof_read.few))
+    judged_as p pb ns fs status text read (long_proof p' bytes ns' are few told past) =
+        let same = same_words words p p' ns ns' read.proof_read.words_ are in
+        absurd (omega (arith, ap length (same_bytes contents p p' pb bytes same.0 read.proof_read.told told), read.proof_read.within, past))
+    judged_as p pb ns fs status text read (long_file p' bytes ns' read' past) =
+        let same = same_words words p p' ns ns' read.proof_read.words_ read'.words_ in
+        absurd (none_long contents ns fs read.files_told (subst (HaveLongFile contents) (sym same.1) past))
+    judged_as p pb ns fs status text read (refused p' pb' ns' fs' _ _ read' refusal) =
+        let same = same_words words p p' ns ns' read.proof_read.words_ read'.proof_read.words_ in
+        let files = one_list contents ns fs' fs (subst (λ l. HaveBytes contents l fs') (sym same.1) read'.files_told) read.files_told in
+        not_understood status text (subst (λ l. IsRefusal l fs status text) (sym same.1) (subst (λ l. IsRefusal ns' l status text) files refusal))
+    judged_as p pb ns fs status text read (judged p' pb' ns' fs' q _ _ read' program answer) =
+        let same = same_words words p p' ns ns' read.proof_read.words_ read'.proof_read.words_ in
+        let files = one_list contents ns fs' fs (subst (λ l. HaveBytes contents l fs') (sym same.1) read'.files_told) read.files_told in
+        let proofs = same_bytes contents p' p pb' pb (sym same.0) read'.proof_read.told read.proof_read.told in
+        answered q status text (subst (λ l. AreProgram l q) files program) (subst (λ n. IsProofAnswer (leads q) (causes q) q n pb status text) (sym same.0) (subst (λ b. IsProofAnswer (leads q) (causes q) q p' b status text) proofs answer))
 
-one_judgement : (leads : Program → PlainSequent → PlainStep → List PlainSequent → Type 0) (causes : Program → PlainSequent → PlainStep → ℕ → Type 0) → ((q : Program) → OneWay (leads q)) → ((q : Program) → HasNoCause (leads q) (causes q)) → OneSource → (p f pb fb : List ℕ) (status other : Status) (text another : List ℕ) → IsJudgedAs leads causes p f pb fb status text → IsJudgedAs leads causes p f pb fb other another → SameAnswer status text other another
-one_judgement leads causes way free law p f pb fb status other text another (unread r holds) (unread r' holds') = refused_alike f r r' (law.one_reason fb r r' holds holds')
-one_judgement leads causes way free law p f pb fb status other text another (unread r holds) (source file none) = absurd (no_reason law fb r file holds)
-one_judgement leads causes way free law p f pb fb status other text another (unread r holds) (proof q reads refuses) = absurd (no_reason law fb r reads.file holds)
-one_judgement leads causes way free law p f pb fb status other text another (unread r holds) (report q s status' text' reads script_reads is) = absurd (no_reason law fb r reads.file holds)
-one_judgement leads causes way free law p f pb fb status other text another (source file none) (unread r holds) = absurd (no_reason law fb r file holds)
-one_judgement leads causes way free law p f pb fb status other text another (source file none) (source file' none') = equal RefusedSource (unbuilt_text f)
-one_judgement leads causes way free law p f pb fb status other text another (source file none) (proof q reads refuses) = absurd (none q reads.reads)
-one_judgement leads causes way free law p f pb fb status other text another (source file none) (report q s status' text' reads script_reads is) = absurd (none q reads.reads)
-one_judgement leads causes way free law p f pb fb status other text another (proof q reads refuses) (unread r holds) = absurd (no_reason law fb r reads.file holds)
-one_judgement leads causes way free law p f pb fb status other text another (proof q reads refuses) (source file none) = absurd (none q reads.reads)
-one_judgement leads causes way free law p f pb fb status other text another (proof q reads refuses) (proof q' reads' refuses') = equal RefusedScript (unbuilt_text p)
-one_judgement leads causes way free law p f pb fb status other text another (proof q reads refuses) (report q' s status' text' reads' script_reads is) =
-    absurd (refuses s (subst (λ p. script.Reads (obligation_name p) pb s) (one_meaning fb q' q reads'.reads reads.reads) script_reads))
-one_judgement leads causes way free law p f pb fb status other text another (report q s status' text' reads script_reads is) (unread r holds) = absurd (no_reason law fb r reads.file holds)
-one_judgement leads causes way free law p f pb fb status other text another (report q s status' text' reads script_reads is) (source file none) = absurd (none q reads.reads)
-one_judgement leads causes way free law p f pb fb status other text another (report q s status' text' reads script_reads is) (proof q' reads' refuses) =
-    absurd (refuses s (subst (λ p. script.Reads (obligation_name p) pb s) (one_meaning fb q q' reads.reads reads'.reads) script_reads))
-one_judgement leads causes way free law p f pb fb status other text another (report q s status' text' reads script_reads is) (report q' s' other' another' reads' script_reads' is') =
-    let programs = one_meaning fb q' q reads'.reads reads.reads in
-    let scripts = one_script (obligation_name q) pb s' s (subst (λ p. script.Reads (obligation_name p) pb s') programs script_reads') script_reads in
-    same_by status other text another (one_report (leads q) (causes q) (way q) (free q) (obligation_name q) (obligation_sequent q) s status other text another is
-    (subst (λ t. IsReport (leads q) (causes q) (obligation_name q) (obligation_sequent q) t other another) scripts (subst (λ p. IsReport (leads p) (causes p) (obligation_name p) (obligation_sequent p) s' other another) programs is')))
+    all_within : (ns fs : List (List ℕ)) → HaveBytes contents ns fs → All (λ f. length f ≤ file_limit) fs
+    all_within [] [] have = All-nil (λ f. length f ≤ file_limit)
+    all_within [] (f ∷ fs) have = absurd have
+    all_within (n ∷ ns) [] have = absurd have
+    all_within (n ∷ ns) (f ∷ fs) have = All-cons (λ f. length f ≤ file_limit) f fs have.1 (all_within ns fs have.2)
 
--- files that are read have one pair of contents
-pub judged_as : (leads : Program → PlainSequent → PlainStep → List PlainSequent → Type 0) (causes : Program → PlainSequent → PlainStep → ℕ → Type 0) (words : List (List ℕ)) (contents : List ℕ → Option (List ℕ)) (proof file proof_bytes file_bytes : List ℕ) (status : Status) (text : List ℕ) → AreRead words contents proof file proof_bytes file_bytes → IsAnswer leads causes words contents status text → IsJudgedAs leads causes proof file proof_bytes file_bytes status text
-judged_as leads causes words contents p f pb fb status text read (usage none) = absurd (let are = read.words_ in cc)
-judged_as leads causes words contents p f pb fb status text read (long_proof p' f' bytes are told past) =
-    let files = same_files words p f p' f' read.words_ are in
-    let same = same_bytes contents p p' pb bytes files.0 read.proof_told told in
-    absurd (omega (arith, ap length same, read.proof_within))
-judged_as leads causes words contents p f pb fb status text read (long_file p' f' pb' bytes are proof_told within told past) =
-    let files = same_files words p f p' f' read.words_ are in
-    let same = same_bytes contents f f' fb bytes files.1 read.file_told told in
-    absurd (omega (arith, ap length same, read.file_within))
-judged_as leads causes words contents p f pb fb status text read (refused_source p' f' pb' fb' r read' holds) =
-    let files = same_files words p f p' f' read.words_ read'.words_ in
-    let bytes = same_bytes contents f f' fb fb' files.1 read.file_told read'.file_told in
-    subst (λ x. IsJudgedAs leads causes p f pb fb RefusedSource (refusal_text x r)) files.1 (unread r (subst (λ b. IsReason b r) (sym bytes) holds))
-judged_as leads causes words contents p f pb fb status text read (no_program p' f' pb' fb' read' file none) =
-    let files = same_files words p f p' f' read.words_ read'.words_ in
-    let bytes = same_bytes contents f f' fb fb' files.1 read.file_told read'.file_told in
-    subst (λ x. IsJudgedAs leads causes p f pb fb RefusedSource (unbuilt_text x)) files.1 (source (subst (λ b. IsFile b) (sym bytes) file) (λ q reads. none q (subst (λ b. java.Reads b q) bytes reads)))
-judged_as leads causes words contents p f pb fb status text read (no_script p' f' pb' fb' q read' reads none) =
-    let files = same_files words p f p' f' read.words_ read'.words_ in
-    let bytes = same_bytes contents f f' fb fb' files.1 read.file_told read'.file_told in
-    let proofs = same_bytes contents p p' pb pb' files.0 read.proof_told read'.proof_told in
-    subst (λ x. IsJudgedAs leads causes p f pb fb RefusedScript (unbuilt_text x)) files.0 (proof q (subst (λ b. IsProgramFile b q) (sym bytes) reads) (λ s script_reads. none s (subst (λ b. script.Reads (obligation_name q) b s) proofs script_reads)))
-judged_as leads causes words contents p f pb fb status text read (long_report p' f' pb' fb' q s status' text' read' reads script_reads is past) =
-    let few = length-report (leads q) (causes q) (obligation_name q) (obligation_sequent q) s status' text' is in
-    let short = length-name fb' q reads.reads in
-    absurd (omega (arith, few, short, read'.file_within))
-judged_as leads causes words contents p f pb fb status text read (replayed p' f' pb' fb' q s status' text' read' reads script_reads is within) =
-    let files = same_files words p f p' f' read.words_ read'.words_ in
-    let bytes = same_bytes contents f f' fb fb' files.1 read.file_told read'.file_told in
-    let proofs = same_bytes contents p p' pb pb' files.0 read.proof_told read'.proof_told in
-    report q s status text (subst (λ b. IsProgramFile b q) (sym bytes) reads) (subst (λ b. script.Reads (obligation_name q) b s) (sym proofs) script_reads) is
+    one_answer_read : (p pb : List ℕ) (ns fs : List (List ℕ)) (status other : Status) (text another : List ℕ) → AreRead words contents p ns pb fs → IsAnswer leads causes words contents status text → IsAnswer leads causes words contents other another → SameAnswer status text other another
+    one_answer_read p pb ns fs status other text another read answer again =
+        one_judgement p pb ns fs status other text another (all_within ns fs read.files_told) (judged_as p pb ns fs status text read answer) (judged_as p pb ns fs other another read again)
 
--- ---- words that are no command, and files that are too long
+    -- ---- words that are no command, too many files, and files that are too long
 
-no_command : (leads : Program → PlainSequent → PlainStep → List PlainSequent → Type 0) (causes : Program → PlainSequent → PlainStep → ℕ → Type 0) (words : List (List ℕ)) (contents : List ℕ → Option (List ℕ)) (status : Status) (text : List ℕ) → replay_words words ≡ None → IsAnswer leads causes words contents status text → (status ≡ Usage) × (text ≡ usage_text)
-no_command leads causes words contents status text others (usage none) = (refl, refl)
-no_command leads causes words contents status text others (long_proof p f bytes are told past) = absurd cc
-no_command leads causes words contents status text others (long_file p f pb bytes are proof_told within told past) = absurd cc
-no_command leads causes words contents status text others (refused_source p f pb fb r read holds) = absurd (let are = read.words_ in cc)
-no_command leads causes words contents status text others (no_program p f pb fb read file none) = absurd (let are = read.words_ in cc)
-no_command leads causes words contents status text others (no_script p f pb fb q read reads none) = absurd (let are = read.words_ in cc)
-no_command leads causes words contents status text others (long_report p f pb fb q s status' text' read reads script_reads is past) = absurd (let are = read.words_ in cc)
-no_command leads causes words contents status text others (replayed p f pb fb q s status' text' read reads script_reads is within) = absurd (let are = read.words_ in cc)
+    no_command : (status : Status) (text : List ℕ) → replay_words words ≡ None → IsAnswer leads causes words contents status text → (Usage ≡ status) × (usage_text ≡ text)
+    no_command status text others (usage none) = (refl, refl)
+    no_command status text others (many_files p ns are many) = absurd (none-some (p, ns) (sym others ∙ are))
+    no_command status text others (long_proof p bytes ns are few told past) = absurd (none-some (p, ns) (sym others ∙ are))
+    no_command status text others (long_file p bytes ns read past) = absurd (none-some (p, ns) (sym others ∙ read.words_))
+    no_command status text others (refused p pb ns fs _ _ read refusal) = absurd (none-some (p, ns) (sym others ∙ read.proof_read.words_))
+    no_command status text others (judged p pb ns fs q _ _ read program answer) = absurd (none-some (p, ns) (sym others ∙ read.proof_read.words_))
 
-not_read : (words : List (List ℕ)) (contents : List ℕ → Option (List ℕ)) (p f bytes p' f' pb' fb' : List ℕ) → replay_words words ≡ Some (p, f) → contents p ≡ Some bytes → proof_limit < length bytes → AreRead words contents p' f' pb' fb' → ⊥
-not_read words contents p f bytes p' f' pb' fb' are told past read =
-    let files = same_files words p f p' f' are read.words_ in
-    let same = same_bytes contents p p' bytes pb' files.0 told read.proof_told in
-    omega (arith, ap length same, read.proof_within)
+    too_many : (p : List ℕ) (ns : List (List ℕ)) (p' : List ℕ) (ns' : List (List ℕ)) → replay_words words ≡ Some (p, ns) → files_limit < length ns → replay_words words ≡ Some (p', ns') → length ns' ≤ files_limit → ⊥
+    too_many p ns p' ns' are many are' few = omega (arith, ap length (same_words words p p' ns ns' are are').1, many, few)
 
-proof_is_past : (leads : Program → PlainSequent → PlainStep → List PlainSequent → Type 0) (causes : Program → PlainSequent → PlainStep → ℕ → Type 0) (words : List (List ℕ)) (contents : List ℕ → Option (List ℕ)) (p f bytes : List ℕ) (status : Status) (text : List ℕ) → replay_words words ≡ Some (p, f) → contents p ≡ Some bytes → proof_limit < length bytes → IsAnswer leads causes words contents status text → (status ≡ Limit) × (text ≡ proof_limit_text)
-proof_is_past leads causes words contents p f bytes status text are told past (usage none) = absurd cc
-proof_is_past leads causes words contents p f bytes status text are told past (long_proof p' f' bytes' are' told' past') = (refl, refl)
-proof_is_past leads causes words contents p f bytes status text are told past (long_file p' f' pb' bytes' are' proof_told' within told' past') =
-    let files = same_files words p f p' f' are are' in
-    let same = same_bytes contents p p' bytes pb' files.0 told proof_told' in
-    absurd (omega (arith, ap length same, past, within))
-proof_is_past leads causes words contents p f bytes status text are told past (refused_source p' f' pb' fb' r read holds) =
-    absurd (not_read words contents p f bytes p' f' pb' fb' are told past read)
-proof_is_past leads causes words contents p f bytes status text are told past (no_program p' f' pb' fb' read file none) =
-    absurd (not_read words contents p f bytes p' f' pb' fb' are told past read)
-proof_is_past leads causes words contents p f bytes status text are told past (no_script p' f' pb' fb' q read reads none) =
-    absurd (not_read words contents p f bytes p' f' pb' fb' are told past read)
-proof_is_past leads causes words contents p f bytes status text are told past (long_report p' f' pb' fb' q s status' text' read reads script_reads is long) =
-    absurd (not_read words contents p f bytes p' f' pb' fb' are told past read)
-proof_is_past leads causes words contents p f bytes status text are told past (replayed p' f' pb' fb' q s status' text' read reads script_reads is within) =
-    absurd (not_read words contents p f bytes p' f' pb' fb' are told past read)
+    files_are_many : (p : List ℕ) (ns : List (List ℕ)) (status : Status) (text : List ℕ) → replay_words words ≡ Some (p, ns) → files_limit < length ns → IsAnswer leads causes words contents status text → (Limit ≡ status) × (files_limit_text ≡ text)
+    files_are_many p ns status text are many (usage none) = absurd (none-some (p, ns) (sym none ∙ are))
+    files_are_many p ns status text are many (many_files p' ns' are' many') = (refl, refl)
+    files_are_many p ns status text are many (long_proof p' bytes ns' are' few told past) = absurd (too_many p ns p' ns' are many are' few)
+    files_are_many p ns status text are many (long_file p' bytes ns' read past) = absurd (too_many p ns p' ns' are many read.words_ read.few)
+    files_are_many p ns status text are many (refused p' pb ns' fs _ _ read refusal) = absurd (too_many p ns p' ns' are many read.proof_read.words_ read.proof_read.few)
+    files_are_many p ns status text are many (judged p' pb ns' fs q _ _ read program answer) = absurd (too_many p ns p' ns' are many read.proof_read.words_ read.proof_read.few)
 
-file_not_read : (words : List (List ℕ)) (contents : List ℕ → Option (List ℕ)) (p f bytes p' f' pb' fb' : List ℕ) → replay_words words ≡ Some (p, f) → contents f ≡ Some bytes → file_limit < length bytes → AreRead words contents p' f' pb' fb' → ⊥
-file_not_read words contents p f bytes p' f' pb' fb' are told past read =
-    let files = same_files words p f p' f' are read.words_ in
-    let same = same_bytes contents f f' bytes fb' files.1 told read.file_told in
-    omega (arith, ap length same, read.file_within)
+    not_read : (p bytes : List ℕ) (ns : List (List ℕ)) (p' bytes' : List ℕ) (ns' : List (List ℕ)) → replay_words words ≡ Some (p, ns) → contents p ≡ Some bytes → proof_limit < length bytes → IsProofRead words contents p' ns' bytes' → ⊥
+    not_read p bytes ns p' bytes' ns' are told past read =
+        let same = same_words words p p' ns ns' are read.words_ in
+        omega (arith, ap length (same_bytes contents p p' bytes bytes' same.0 told read.told), read.within, past)
 
-file_is_past : (leads : Program → PlainSequent → PlainStep → List PlainSequent → Type 0) (causes : Program → PlainSequent → PlainStep → ℕ → Type 0) (words : List (List ℕ)) (contents : List ℕ → Option (List ℕ)) (p f pb bytes : List ℕ) (status : Status) (text : List ℕ) → replay_words words ≡ Some (p, f) → contents p ≡ Some pb → length pb ≤ proof_limit → contents f ≡ Some bytes → file_limit < length bytes → IsAnswer leads causes words contents status text → (status ≡ Limit) × (text ≡ file_limit_text)
-file_is_past leads causes words contents p f pb bytes status text are proof_told fits told past (usage none) = absurd cc
-file_is_past leads causes words contents p f pb bytes status text are proof_told fits told past (long_proof p' f' bytes' are' told' past') =
-    let files = same_files words p f p' f' are are' in
-    let same = same_bytes contents p p' pb bytes' files.0 proof_told told' in
-    absurd (omega (arith, ap length same, past', fits))
-file_is_past leads causes words contents p f pb bytes status text are proof_told fits told past (long_file p' f' pb' bytes' are' proof_told' within told' past') = (refl, refl)
-file_is_past leads causes words contents p f pb bytes status text are proof_told fits told past (refused_source p' f' pb' fb' r read holds) =
-    absurd (file_not_read words contents p f bytes p' f' pb' fb' are told past read)
-file_is_past leads causes words contents p f pb bytes status text are proof_told fits told past (no_program p' f' pb' fb' read file none) =
-    absurd (file_not_read words contents p f bytes p' f' pb' fb' are told past read)
-file_is_past leads causes words contents p f pb bytes status text are proof_told fits told past (no_script p' f' pb' fb' q read reads none) =
-    absurd (file_not_read words contents p f bytes p' f' pb' fb' are told past read)
-file_is_past leads causes words contents p f pb bytes status text are proof_told fits told past (long_report p' f' pb' fb' q s status' text' read reads script_reads is long) =
-    absurd (file_not_read words contents p f bytes p' f' pb' fb' are told past read)
-file_is_past leads causes words contents p f pb bytes status text are proof_told fits told past (replayed p' f' pb' fb' q s status' text' read reads script_reads is within) =
-    absurd (file_not_read words contents p f bytes p' f' pb' fb' are told past read)
+    proof_is_past : (p bytes : List ℕ) (ns : List (List ℕ)) (status : Status) (text : List ℕ) → replay_words words ≡ Some (p, ns) → length ns ≤ files_limit → contents p ≡ Some bytes → proof_limit < length bytes → IsAnswer leads causes words contents status text → (Limit ≡ status) × (proof_limit_text ≡ text)
+    proof_is_past p bytes ns status text are few told past (usage none) = absurd (none-some (p, ns) (sym none ∙ are))
+    proof_is_past p bytes ns status text are few told past (many_files p' ns' are' many) = absurd (too_many p' ns' p ns are' many are few)
+    proof_is_past p bytes ns status text are few told past (long_proof p' bytes' ns' are' few' told' past') = (refl, refl)
+    proof_is_past p bytes ns status text are few told past (long_file p' bytes' ns' read past') = absurd (not_read p bytes ns p' bytes' ns' are told past read)
+    proof_is_past p bytes ns status text are few told past (refused p' pb ns' fs _ _ read refusal) = absurd (not_read p bytes ns p' pb ns' are told past read.proof_read)
+    proof_is_past p bytes ns status text are few told past (judged p' pb ns' fs q _ _ read program answer) = absurd (not_read p bytes ns p' pb ns' are told past read.proof_read)
 
--- ---- one answer
+    file_not_read : (p bytes : List ℕ) (ns : List (List ℕ)) (p' bytes' : List ℕ) (ns' fs : List (List ℕ)) → IsProofRead words contents p ns bytes → HaveLongFile contents ns → AreRead words contents p' ns' bytes' fs → ⊥
+    file_not_read p bytes ns p' bytes' ns' fs read past all =
+        let same = same_words words p p' ns ns' read.words_ all.proof_read.words_ in
+        none_long contents ns' fs all.files_told (subst (HaveLongFile contents) same.1 past)
 
-both_back : {status other : Status} {text another : List ℕ} → (other ≡ status) × (another ≡ text) → (status ≡ other) × (text ≡ another)
-both_back same = (sym same.0, sym same.1)
+    file_is_past : (p bytes : List ℕ) (ns : List (List ℕ)) (status : Status) (text : List ℕ) → IsProofRead words contents p ns bytes → HaveLongFile contents ns → IsAnswer leads causes words contents status text → (Limit ≡ status) × (file_limit_text ≡ text)
+    file_is_past p bytes ns status text read past (usage none) = absurd (none-some (p, ns) (sym none ∙ read.words_))
+    file_is_past p bytes ns status text read past (many_files p' ns' are many) = absurd (too_many p' ns' p ns are many read.words_ read.few)
+    file_is_past p bytes ns status text read past (long_proof p' bytes' ns' are few told long) = absurd (not_read p' bytes' ns' p bytes ns are told long read)
+    file_is_past p bytes ns status text read past (long_file p' bytes' ns' read' past') = (refl, refl)
+    file_is_past p bytes ns status text read past (refused p' pb ns' fs _ _ all refusal) = absurd (file_not_read p bytes ns p' pb ns' fs read past all)
+    file_is_past p bytes ns status text read past (judged p' pb ns' fs q _ _ all program answer) = absurd (file_not_read p bytes ns p' pb ns' fs read past all)
 
-one_answer_read : (leads : Program → PlainSequent → PlainStep → List PlainSequent → Type 0) (causes : Program → PlainSequent → PlainStep → ℕ → Type 0) → ((q : Program) → OneWay (leads q)) → ((q : Program) → HasNoCause (leads q) (causes q)) → OneSource → (words : List (List ℕ)) (contents : List ℕ → Option (List ℕ)) (p f pb fb : List ℕ) (status other : Status) (text another : List ℕ) → AreRead words contents p f pb fb → IsAnswer leads causes words contents status text → IsAnswer leads causes words contents other another → SameAnswer status text other another
-one_answer_read leads causes way free law words contents p f pb fb status other text another read answer again =
-    one_judgement leads causes way free law p f pb fb status other text another (judged_as leads causes words contents p f pb fb status text read answer) (judged_as leads causes words contents p f pb fb other another read again)
+    -- ---- one answer
 
-pub answer_unique : (leads : Program → PlainSequent → PlainStep → List PlainSequent → Type 0) (causes : Program → PlainSequent → PlainStep → ℕ → Type 0) → ((q : Program) → OneWay (leads q)) → ((q : Program) → HasNoCause (leads q) (causes q)) → OneSource → (words : List (List ℕ)) (contents : List ℕ → Option (List ℕ)) (status other : Status) (text another : List ℕ) → IsAnswer leads causes words contents status text → IsAnswer leads causes words contents other another → SameAnswer status text other another
-answer_unique leads causes way free law words contents status other text another (usage none) again =
-    same_by status other text another (both_back (no_command leads causes words contents other another none again))
-answer_unique leads causes way free law words contents status other text another (long_proof p f bytes are told past) again =
-    same_by status other text another (both_back (proof_is_past leads causes words contents p f bytes other another are told past again))
-answer_unique leads causes way free law words contents status other text another (long_file p f pb bytes are proof_told within told past) again =
-    same_by status other text another (both_back (file_is_past leads causes words contents p f pb bytes other another are proof_told within told past again))
-answer_unique leads causes way free law words contents status other text another (refused_source p f pb fb r read holds) again =
-    one_answer_read leads causes way free law words contents p f pb fb RefusedSource other _ another read (refused_source p f pb fb r read holds) again
-answer_unique leads causes way free law words contents status other text another (no_program p f pb fb read file none) again =
-    one_answer_read leads causes way free law words contents p f pb fb RefusedSource other _ another read (no_program p f pb fb read file none) again
-answer_unique leads causes way free law words contents status other text another (no_script p f pb fb q read reads none) again =
-    one_answer_read leads causes way free law words contents p f pb fb RefusedScript other _ another read (no_script p f pb fb q read reads none) again
-answer_unique leads causes way free law words contents status other text another (long_report p f pb fb q s status' text' read reads script_reads is past) again =
-    one_answer_read leads causes way free law words contents p f pb fb Limit other _ another read (long_report p f pb fb q s status' text' read reads script_reads is past) again
-answer_unique leads causes way free law words contents status other text another (replayed p f pb fb q s status' text' read reads script_reads is within) again =
-    one_answer_read leads causes way free law words contents p f pb fb status' other text' another read (replayed p f pb fb q s status' text' read reads script_reads is within) again
+    pub answer_unique : (status other : Status) (text another : List ℕ) → IsAnswer leads causes words contents status text → IsAnswer leads causes words contents other another → SameAnswer status text other another
+    answer_unique status other text another (usage none) again = same_by status other text another (no_command other another none again)
+    answer_unique status other text another (many_files p ns are many) again = same_by status other text another (files_are_many p ns other another are many again)
+    answer_unique status other text another (long_proof p bytes ns are few told past) again = same_by status other text another (proof_is_past p bytes ns other another are few told past again)
+    answer_unique status other text another (long_file p bytes ns read past) again = same_by status other text another (file_is_past p bytes ns other another read past again)
+    answer_unique status other text another (refused p pb ns fs _ _ read refusal) again =
+        one_answer_read p pb ns fs status other text another read (refused p pb ns fs status text read refusal) again
+    answer_unique status other text another (judged p pb ns fs q _ _ read program answer) again =
+        one_answer_read p pb ns fs status other text another read (judged p pb ns fs q status text read program answer) again

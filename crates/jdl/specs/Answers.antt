@@ -1,30 +1,28 @@
 -- What the program answers, from the words and the contents of the files.
-use Rattle.std.specs.Prelude.{◌≡◌, ℕ, ◌<◌, ◌≤◌, List, length, Option, Some, None}
-use Rattle.jd_source.specs.Sources.{Reason, IsReason, SameReason}
+use Rattle.std.specs.Prelude.{◌≡◌, ℕ, ◌<◌, ◌≤◌, List, [], ◌∷◌, length, Option, Some, None}
+use Rattle.jd_source.specs.Sources.{Reason, SameReason}
 use Rattle.jd_model.specs.Sequents.{PlainSequent}
 use Rattle.jd_sequent.specs.Trees.{PlainStep}
 use Rattle.jd_sequent.specs.Obligations.{PlainTask}
 use Rattle.jd_sequent.specs.Rules.{LeadsWithinLimits}
 use Rattle.jd_first_steps.specs.Instances.{IsInstance}
 use Rattle.jd_first_rules.specs.Causes.{Cause}
+use Rattle.jd_files.specs.Files.{file_limit, files_limit}
 use Rattle.jd_first_java.specs.Programs.{Program}
-use Rattle.jd_first_java.specs.Reads as java
 use Rattle.jd_first_script.specs.Scripts as script
 use Rattle.jd_first_script.specs.Scripts.{PlainScript}
 use Rattle.jd_first_oblig.specs.Obligations.{obligation_name, obligation_sequent}
 use Rattle.jd_first_meaning.specs.ClosedPrograms.{task_of}
 use Rattle.jdl.specs.Words.{replay_words}
-use Rattle.jdl.specs.Sources.{IsFile, IsProgramFile}
-use Rattle.jdl.specs.Reports.{usage_text, unbuilt_text, refusal_text, proof_limit_text, file_limit_text, report_limit_text, IsReport}
+use Rattle.jdl.specs.FileAnswers.{IsRefusal}
+use Rattle.jdl.specs.Sources.{AreProgram}
+use Rattle.jdl.specs.Reports.{usage_text, unbuilt_text, refusal_text, files_limit_text, proof_limit_text, file_limit_text, report_limit_text, IsReport}
 use Rattle.jdl.specs.declared.status.Status.{Status}
 use Rattle.jdl.specs.declared.status.Status.TheVariants.{Usage, RefusedSource, RefusedScript, Limit}
 
--- limits in bytes: of a proof file, of a Java file, of a report
+-- limits in bytes: of a proof file, of a report
 abbrev pub proof_limit : ℕ
 proof_limit = 16777216
-
-abbrev pub file_limit : ℕ
-file_limit = 1048576
 
 abbrev pub report_limit : ℕ
 report_limit = 67108864
@@ -50,33 +48,58 @@ causes_of cause q = cause (task_of q)
 abbrev pub first_causes : Program → PlainSequent → PlainStep → ℕ → Type 0
 first_causes = causes_of (λ t s p n. Cause s p n)
 
--- the words name these two files, whose bytes are these, within the limits
-pub record AreRead (words : List (List ℕ)) (contents : List ℕ → Option (List ℕ)) (proof file proof_bytes file_bytes : List ℕ) : Type 0 where
-  pub words_ : replay_words words ≡ Some (proof, file)
-  pub proof_told : contents proof ≡ Some proof_bytes
-  pub proof_within : length proof_bytes ≤ proof_limit
-  pub file_told : contents file ≡ Some file_bytes
-  pub file_within : length file_bytes ≤ file_limit
+-- these are the bytes of the files, each within the limit
+abbrev pub HaveBytes : (List ℕ → Option (List ℕ)) → List (List ℕ) → List (List ℕ) → Type 0
+HaveBytes contents [] [] = Unit {0}
+HaveBytes contents [] (b ∷ bs) = ⊥
+HaveBytes contents (n ∷ ns) [] = ⊥
+HaveBytes contents (n ∷ ns) (b ∷ bs) = (contents n ≡ Some b) × (length b ≤ file_limit) × HaveBytes contents ns bs
 
--- the status and the text that are answered; a step of a program's obligation leads from a sequent to its premises, or has
--- causes
+-- one of the files is longer than the limit, and those before it are not
+pub data HaveLongFile (contents : List ℕ → Option (List ℕ)) : List (List ℕ) → Type 0 where
+  long : (name bytes : List ℕ) (names : List (List ℕ)) → contents name ≡ Some bytes → file_limit < length bytes → HaveLongFile contents (name ∷ names)
+  behind : (name bytes : List ℕ) (names : List (List ℕ)) → contents name ≡ Some bytes → length bytes ≤ file_limit → HaveLongFile contents names → HaveLongFile contents (name ∷ names)
+
+-- the words name a proof file and Java files, not too many, and the proof file has these bytes, within the limit
+pub record IsProofRead (words : List (List ℕ)) (contents : List ℕ → Option (List ℕ)) (proof : List ℕ) (names : List (List ℕ)) (proof_bytes : List ℕ) : Type 0 where
+  pub words_ : replay_words words ≡ Some (proof, names)
+  pub few : length names ≤ files_limit
+  pub told : contents proof ≡ Some proof_bytes
+  pub within : length proof_bytes ≤ proof_limit
+
+-- and the Java files have these bytes, within the limit
+pub record AreRead (words : List (List ℕ)) (contents : List ℕ → Option (List ℕ)) (proof : List ℕ) (names : List (List ℕ)) (proof_bytes : List ℕ) (files : List (List ℕ)) : Type 0 where
+  pub proof_read : IsProofRead words contents proof names proof_bytes
+  pub files_told : HaveBytes contents names files
+
+-- the status and the text for a program and the bytes of the proof file of this name; a step of the program's obligation leads
+-- from a sequent to its premises, or has causes
+pub data IsProofAnswer (leads : PlainSequent → PlainStep → List PlainSequent → Type 0) (causes : PlainSequent → PlainStep → ℕ → Type 0) (q : Program) (proof bytes : List ℕ) : Status → List ℕ → Type 0 where
+  no_script : ((s : PlainScript) → script.Reads (obligation_name q) bytes s → ⊥) → IsProofAnswer leads causes q proof bytes RefusedScript (unbuilt_text proof)
+  long_report : (s : PlainScript) (status : Status) (text : List ℕ) → script.Reads (obligation_name q) bytes s → IsReport leads causes (obligation_name q) (obligation_sequent q) s status text → report_limit < length text → IsProofAnswer leads causes q proof bytes Limit report_limit_text
+  replayed : (s : PlainScript) (status : Status) (text : List ℕ) → script.Reads (obligation_name q) bytes s → IsReport leads causes (obligation_name q) (obligation_sequent q) s status text → length text ≤ report_limit → IsProofAnswer leads causes q proof bytes status text
+
+-- the status and the text that are answered
 pub data IsAnswer (leads : Program → PlainSequent → PlainStep → List PlainSequent → Type 0) (causes : Program → PlainSequent → PlainStep → ℕ → Type 0) (words : List (List ℕ)) (contents : List ℕ → Option (List ℕ)) : Status → List ℕ → Type 0 where
   usage : replay_words words ≡ None → IsAnswer leads causes words contents Usage usage_text
-  long_proof : (proof file bytes : List ℕ) → replay_words words ≡ Some (proof, file) → contents proof ≡ Some bytes → proof_limit < length bytes → IsAnswer leads causes words contents Limit proof_limit_text
-  long_file : (proof file proof_bytes bytes : List ℕ) → replay_words words ≡ Some (proof, file) → contents proof ≡ Some proof_bytes → length proof_bytes ≤ proof_limit → contents file ≡ Some bytes → file_limit < length bytes → IsAnswer leads causes words contents Limit file_limit_text
-  refused_source : (proof file proof_bytes file_bytes : List ℕ) (r : Reason) → AreRead words contents proof file proof_bytes file_bytes → IsReason file_bytes r → IsAnswer leads causes words contents RefusedSource (refusal_text file r)
-  no_program : (proof file proof_bytes file_bytes : List ℕ) → AreRead words contents proof file proof_bytes file_bytes → IsFile file_bytes → ((q : Program) → java.Reads file_bytes q → ⊥) → IsAnswer leads causes words contents RefusedSource (unbuilt_text file)
-  no_script : (proof file proof_bytes file_bytes : List ℕ) (q : Program) → AreRead words contents proof file proof_bytes file_bytes → IsProgramFile file_bytes q → ((s : PlainScript) → script.Reads (obligation_name q) proof_bytes s → ⊥) → IsAnswer leads causes words contents RefusedScript (unbuilt_text proof)
-  long_report : (proof file proof_bytes file_bytes : List ℕ) (q : Program) (s : PlainScript) (status : Status) (text : List ℕ) → AreRead words contents proof file proof_bytes file_bytes → IsProgramFile file_bytes q → script.Reads (obligation_name q) proof_bytes s → IsReport (leads q) (causes q) (obligation_name q) (obligation_sequent q) s status text → report_limit < length text → IsAnswer leads causes words contents Limit report_limit_text
-  replayed : (proof file proof_bytes file_bytes : List ℕ) (q : Program) (s : PlainScript) (status : Status) (text : List ℕ) → AreRead words contents proof file proof_bytes file_bytes → IsProgramFile file_bytes q → script.Reads (obligation_name q) proof_bytes s → IsReport (leads q) (causes q) (obligation_name q) (obligation_sequent q) s status text → length text ≤ report_limit → IsAnswer leads causes words contents status text
+  many_files : (proof : List ℕ) (names : List (List ℕ)) → replay_words words ≡ Some (proof, names) → files_limit < length names → IsAnswer leads causes words contents Limit files_limit_text
+  long_proof : (proof bytes : List ℕ) (names : List (List ℕ)) → replay_words words ≡ Some (proof, names) → length names ≤ files_limit → contents proof ≡ Some bytes → proof_limit < length bytes → IsAnswer leads causes words contents Limit proof_limit_text
+  long_file : (proof bytes : List ℕ) (names : List (List ℕ)) → IsProofRead words contents proof names bytes → HaveLongFile contents names → IsAnswer leads causes words contents Limit file_limit_text
+  refused : (proof bytes : List ℕ) (names files : List (List ℕ)) (status : Status) (text : List ℕ) → AreRead words contents proof names bytes files → IsRefusal names files status text → IsAnswer leads causes words contents status text
+  judged : (proof bytes : List ℕ) (names files : List (List ℕ)) (q : Program) (status : Status) (text : List ℕ) → AreRead words contents proof names bytes files → AreProgram files q → IsProofAnswer (leads q) (causes q) q proof bytes status text → IsAnswer leads causes words contents status text
 
--- the library tells what is in the files that the words name, as far as they are read
+-- the library tells what is in the Java files, up to the first that is too long
+abbrev pub AreTold : (List ℕ → Option (List ℕ)) → List (List ℕ) → Type 0
+AreTold contents [] = Unit {0}
+AreTold contents (n ∷ ns) = (bytes : List ℕ) × (contents n ≡ Some bytes) × (length bytes ≤ file_limit → AreTold contents ns)
+
+-- it tells what is in the files that the words name, as far as they are read
 abbrev pub IsTold : List (List ℕ) → (List ℕ → Option (List ℕ)) → Type 0
 IsTold words contents =
-    (proof file : List ℕ) → replay_words words ≡ Some (proof, file)
-    → (bytes : List ℕ) × (contents proof ≡ Some bytes) × (length bytes ≤ proof_limit → (more : List ℕ) × (contents file ≡ Some more))
+    (proof : List ℕ) (names : List (List ℕ)) → replay_words words ≡ Some (proof, names) → length names ≤ files_limit
+    → (bytes : List ℕ) × (contents proof ≡ Some bytes) × (length bytes ≤ proof_limit → AreTold contents names)
 
 -- the same answer; of a Java file that is none, or that nests too deep, at any place
 pub data SameAnswer : Status → List ℕ → Status → List ℕ → Type 0 where
   equal : (status : Status) (text : List ℕ) → SameAnswer status text status text
-  refused_alike : (file : List ℕ) (r s : Reason) → SameReason r s → SameAnswer RefusedSource (refusal_text file r) RefusedSource (refusal_text file s)
+  refused_alike : (name : List ℕ) (r s : Reason) → SameReason r s → SameAnswer RefusedSource (refusal_text name r) RefusedSource (refusal_text name s)

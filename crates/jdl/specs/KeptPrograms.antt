@@ -1,16 +1,16 @@
 -- What status 0 means: the method keeps its contract.
-use Rattle.std.specs.Prelude.{◌≡◌, ℕ, List, Option, Some}
+use Rattle.std.specs.Prelude.{◌≡◌, ℕ, List, [], ◌∷◌, Option, Some}
 use Rattle.jd_model.specs.Cases.{Case, SpecifiedProgram}
 use Rattle.jd_model.specs.KeptCases.{Kept}
 use Rattle.jd_first_meaning.specs.SpelledPrograms.{Spells}
 use Rattle.jdl.specs.Words.{replay_words}
 
--- the words name a Java file whose bytes spell the program
+-- the words name one Java file, and its bytes spell the program; more than one have no obligations yet
 pub record FileSpells (words : List (List ℕ)) (contents : List ℕ → Option (List ℕ)) (p : SpecifiedProgram) : Type 0 where
   pub proof : List ℕ
   pub file : List ℕ
   pub bytes : List ℕ
-  pub words_ : replay_words words ≡ Some (proof, file)
+  pub words_ : replay_words words ≡ Some (proof, file ∷ [])
   pub told : contents file ≡ Some bytes
   pub spelled : Spells bytes p
 

@@ -1,7 +1,10 @@
 pub mod Answers
+pub mod FileAnswers
 pub mod KeptPrograms
 pub mod Outcomes
+pub mod Refusing
 pub mod Reports
 pub mod Sources
 pub mod Statuses
+pub mod Understanding
 pub mod Words

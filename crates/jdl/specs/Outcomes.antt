@@ -1,5 +1,6 @@
 -- What each status of a call tells.
-use Rattle.std.specs.Prelude.{◌≡◌, ◌⊎◌, ℕ, ◌<◌, ◌≤◌, List, [], ◌++◌, length, take, Option, Some}
+use Rattle.std.specs.Prelude.{◌≡◌, ℕ, ◌<◌, ◌≤◌, List, [], ◌∷◌, ◌++◌, length, take, Option, Some}
+use Rattle.std.specs.List.{Contains}
 use Rattle.std.specs.Option.{ForSome}
 use Rattle.jd_base.specs.Faults.{Rose}
 use Rattle.jd_model.specs.Sequents.{PlainSequent}
@@ -10,10 +11,13 @@ use Rattle.jd_first_script.specs.Scripts as script
 use Rattle.jd_first_script.specs.Scripts.{PlainScript, OneProof}
 use Rattle.jd_first_oblig.specs.Obligations.{obligation_name, obligation_sequent}
 use Rattle.jdl.specs.Words.{replay_words}
-use Rattle.jdl.specs.Sources.{IsProgramFile, HasNoProgram}
+use Rattle.jd_files.specs.Files.{files_limit}
+use Rattle.jdl.specs.FileAnswers.{IsRefusal}
+use Rattle.jdl.specs.Sources.{AreProgram}
 use Rattle.jdl.specs.Reports.{IsReport}
-use Rattle.jdl.specs.Answers.{proof_limit, file_limit, report_limit, AreRead, IsAnswer}
+use Rattle.jdl.specs.Answers.{proof_limit, report_limit, HaveLongFile, IsProofRead, AreRead, IsAnswer}
 use Rattle.jdl.specs.declared.status.Status.{Status}
+use Rattle.jdl.specs.declared.status.Status.TheVariants.{RefusedSource, Limit}
 
 -- ---- what is written
 
@@ -32,30 +36,41 @@ pub record IsCutShort (leads : Program → PlainSequent → PlainStep → List P
 
 -- ---- faults of reading
 
+-- the words name this file
+pub record IsNamed (words : List (List ℕ)) (name : List ℕ) : Type 0 where
+  pub proof : List ℕ
+  pub names : List (List ℕ)
+  pub words_ : replay_words words ≡ Some (proof, names)
+  pub among : Contains (proof ∷ names) name
+
+-- the count of faults of one of these files rose
+pub record HasRisen (names : List (List ℕ)) (before after : List ℕ → ℕ) : Type 0 where
+  pub name : List ℕ
+  pub among : Contains names name
+  pub rose : Rose (before name) (after name)
+
 -- the words name files, and the count of faults of one of them rose
 pub record IsReadFault (words : List (List ℕ)) (before after : List ℕ → ℕ) : Type 0 where
-  pub proof : List ℕ
-  pub file : List ℕ
-  pub words_ : replay_words words ≡ Some (proof, file)
-  pub rose : Rose (before proof) (after proof) ⊎ Rose (before file) (after file)
+  pub name : List ℕ
+  pub named : IsNamed words name
+  pub rose : Rose (before name) (after name)
 
 -- the words name a file whose count of faults is greater than before
 pub record HasMoreFaults (words : List (List ℕ)) (before after : List ℕ → ℕ) : Type 0 where
-  pub proof : List ℕ
-  pub file : List ℕ
-  pub words_ : replay_words words ≡ Some (proof, file)
-  pub more : (before proof < after proof) ⊎ (before file < after file)
+  pub name : List ℕ
+  pub named : IsNamed words name
+  pub more : before name < after name
 
 -- ---- what is accepted and what is refused
 
 -- the files are a program and a script of its obligation
 pub record AreUnderstood (words : List (List ℕ)) (contents : List ℕ → Option (List ℕ)) (program : Program) (plain : PlainScript) : Type 0 where
   pub proof : List ℕ
-  pub file : List ℕ
   pub proof_bytes : List ℕ
-  pub file_bytes : List ℕ
-  pub read : AreRead words contents proof file proof_bytes file_bytes
-  pub java_ : IsProgramFile file_bytes program
+  pub names : List (List ℕ)
+  pub files : List (List ℕ)
+  pub read : AreRead words contents proof names proof_bytes files
+  pub java_ : AreProgram files program
   pub script_ : script.Reads (obligation_name program) proof_bytes plain
 
 -- the proof derives the obligation's sequent, and leaves nothing to be shown
@@ -72,28 +87,31 @@ pub record IsNotAccepted (leads : Program → PlainSequent → PlainStep → Lis
   pub understood : AreUnderstood words contents program plain
   pub not_derived : (tree : ProofTree) → plain ≡ OneProof tree → Derives (leads program) tree (obligation_sequent program) [] → ⊥
 
--- the Java file is not read, or its form has no obligation yet
+-- the Java files are not read, have no program's classes, or a form that has no obligation yet
 pub record IsSourceRefused (words : List (List ℕ)) (contents : List ℕ → Option (List ℕ)) : Type 0 where
   pub proof : List ℕ
-  pub file : List ℕ
   pub proof_bytes : List ℕ
-  pub file_bytes : List ℕ
-  pub read : AreRead words contents proof file proof_bytes file_bytes
-  pub no_program : HasNoProgram file_bytes
+  pub names : List (List ℕ)
+  pub files : List (List ℕ)
+  pub read : AreRead words contents proof names proof_bytes files
+  pub text : List ℕ
+  pub refusal : IsRefusal names files RefusedSource text
 
--- the Java file is a program, and the proof file is no script of its obligation
+-- the Java files are a program, and the proof file is no script of its obligation
 pub record IsScriptRefused (words : List (List ℕ)) (contents : List ℕ → Option (List ℕ)) : Type 0 where
   pub proof : List ℕ
-  pub file : List ℕ
   pub proof_bytes : List ℕ
-  pub file_bytes : List ℕ
+  pub names : List (List ℕ)
+  pub files : List (List ℕ)
   pub program : Program
-  pub read : AreRead words contents proof file proof_bytes file_bytes
-  pub java_ : IsProgramFile file_bytes program
+  pub read : AreRead words contents proof names proof_bytes files
+  pub java_ : AreProgram files program
   pub no_script : (s : PlainScript) → script.Reads (obligation_name program) proof_bytes s → ⊥
 
--- the proof file, the Java file or the report is too long
+-- there are too many files, classes or methods, or the proof file, a Java file or the report is too long
 pub data IsPastLimit (leads : Program → PlainSequent → PlainStep → List PlainSequent → Type 0) (causes : Program → PlainSequent → PlainStep → ℕ → Type 0) (words : List (List ℕ)) (contents : List ℕ → Option (List ℕ)) : Type 0 where
-  long_proof : (proof file bytes : List ℕ) → replay_words words ≡ Some (proof, file) → contents proof ≡ Some bytes → proof_limit < length bytes → IsPastLimit leads causes words contents
-  long_file : (proof file bytes : List ℕ) → replay_words words ≡ Some (proof, file) → contents file ≡ Some bytes → file_limit < length bytes → IsPastLimit leads causes words contents
+  many_files : (proof : List ℕ) (names : List (List ℕ)) → replay_words words ≡ Some (proof, names) → files_limit < length names → IsPastLimit leads causes words contents
+  long_proof : (proof bytes : List ℕ) (names : List (List ℕ)) → replay_words words ≡ Some (proof, names) → contents proof ≡ Some bytes → proof_limit < length bytes → IsPastLimit leads causes words contents
+  long_file : (proof proof_bytes : List ℕ) (names : List (List ℕ)) → IsProofRead words contents proof names proof_bytes → HaveLongFile contents names → IsPastLimit leads causes words contents
+  many_parts : (proof proof_bytes text : List ℕ) (names files : List (List ℕ)) → AreRead words contents proof names proof_bytes files → IsRefusal names files Limit text → IsPastLimit leads causes words contents
   long_report : (program : Program) (plain : PlainScript) (status : Status) (text : List ℕ) → AreUnderstood words contents program plain → IsReport (leads program) (causes program) (obligation_name program) (obligation_sequent program) plain status text → report_limit < length text → IsPastLimit leads causes words contents

@@ -1,7 +1,8 @@
 -- What the program prints, and when.
-use Rattle.std.specs.Prelude.{◌≡◌, ℕ, ◌<◌, List, [], ◌∷◌, ◌++◌, length, codes}
+use Rattle.std.specs.Prelude.{◌≡◌, ℕ, ◌<◌, List, [], ◌∷◌, ◌++◌, length, Option, Some, None, codes}
 use Rattle.std.specs.Fmt.{decimal}
 use Rattle.jd_lex.specs.Parts.{Fault, BadByte, OpenComment, BigLiteral}
+use Rattle.jd_jclasses.specs.Refusals as classes
 use Rattle.jd_source.specs.Sources.{Reason, Faulty, Unsupported, NoFile, TooDeep}
 use Rattle.jd_model.specs.Sequents.{PlainSequent}
 use Rattle.jd_sequent.specs.Trees.{PlainStep, ProofTree, steps_in}
@@ -47,6 +48,32 @@ reason_text (TooDeep at) = placed_text (codes "TooDeep") at
 
 abbrev pub refusal_text : List ℕ → Reason → List ℕ
 refusal_text file reason = line (codes "refused " ++ (file ++ (32 ∷ reason_text reason)))
+
+-- the kind of a refusal of classes, the number of the file, and the place in it; none of a limit
+abbrev pub class_kind : classes.Refusal → Option (List ℕ × (ℕ × ℕ))
+class_kind (classes.DuplicateClass file at) = Some (codes "DuplicateClass", (file, at))
+class_kind (classes.UnknownSuper file at) = Some (codes "UnknownSuper", (file, at))
+class_kind (classes.CyclicExtends file at) = Some (codes "CyclicExtends", (file, at))
+class_kind (classes.DuplicateMember file at) = Some (codes "DuplicateMember", (file, at))
+class_kind (classes.Hiding file at) = Some (codes "Hiding", (file, at))
+class_kind (classes.Overload file at) = Some (codes "Overload", (file, at))
+class_kind (classes.BadOverride file at) = Some (codes "BadOverride", (file, at))
+class_kind classes.ManyClasses = None
+class_kind classes.ManyMethods = None
+
+abbrev pub class_refusal_text : List ℕ → List ℕ → ℕ → List ℕ
+class_refusal_text name kind at = line (codes "refused " ++ (name ++ (32 ∷ placed_text kind at)))
+
+-- ---- the lines of limits
+
+abbrev pub files_limit_text : List ℕ
+files_limit_text = line (codes "limit files 64")
+
+abbrev pub class_limit_text : List ℕ
+class_limit_text = line (codes "limit classes 256")
+
+abbrev pub method_limit_text : List ℕ
+method_limit_text = line (codes "limit methods 2048")
 
 abbrev pub proof_limit_text : List ℕ
 proof_limit_text = line (codes "limit proof-bytes 16777216")

@@ -1,34 +1,41 @@
 ghost use Rattle.std.specs.Prelude.{◌≡◌, ◌<◌, ◌≤◌, ℕ, List, Option, length, Some, None, IfOk, IfSome, OnOk, IsErrOf, MatchOption, map};
+ghost use Rattle.std.specs.List.{All};
 ghost use Rattle.std.specs.Option.{ForSome};
 ghost use Rattle.jd_base.specs.Faults.{Rose, SameCounts, SameContents};
 ghost use Rattle.jd_sequent.specs.Trees.{tree_of};
 ghost use Rattle.jd_sequent.specs.Steps.{node_view};
 ghost use Rattle.jd_replay.specs.Verdicts.{IsVerdict};
+ghost use Rattle.jd_files.specs.Files.{AreProgramClasses, file_limit, files_limit};
 ghost use Rattle.jd_first_java.specs.Programs.{IsProgram};
 ghost use Rattle.jd_first_java.specs.Reads.{program_view};
 ghost use Rattle.jd_first_script.specs.Scripts.{script_view};
 ghost use Rattle.jd_first_oblig.specs.Obligations.{obligation_name, obligation_sequent};
 ghost use Rattle.jdl.specs.Words.{word_texts, replay_words};
 ghost use Rattle.jdl.specs.Reports.{IsReport, report_limit_text};
-ghost use Rattle.jdl.specs.Answers.{AcceptsObligations, leads_of, causes_of, file_limit, report_limit, AreRead, IsAnswer, SameAnswer, IsTold};
+ghost use Rattle.jdl.specs.Answers.{AcceptsObligations, leads_of, causes_of, report_limit, AreRead, AreTold, HaveBytes, HaveLongFile, IsAnswer, IsProofAnswer, SameAnswer, IsTold};
 ghost use Rattle.jdl.specs.Statuses.{IsJudged, IsWritten};
-ghost use Rattle.jdl.specs.Outcomes.{IsReadFault, HasMoreFaults};
+ghost use Rattle.jdl.specs.FileAnswers.{IsRefusal};
+ghost use Rattle.jdl.specs.Outcomes.{IsReadFault, HasMoreFaults, HasRisen};
+ghost use Rattle.jdl.specs.Understanding.{IsNoProgram, IsOneProgram, IsUnderstood};
 ghost use Rattle.jdl.specs.declared.status.Status.{Status};
 ghost use Rattle.jdl.specs.declared.answer.Stop.TheVariants.{NoMemory as OutOfMemory};
 
 use crate::java::refused;
 use crate::report::{missing, status_of, text_of};
 use crate::status::Status;
-use crate::text::{file_too_long, proof_too_long, report_too_long, unbuilt, usage};
+use crate::text::{file_too_long, proof_too_long, report_too_long, too_many_files, unbuilt, usage};
 use crate::words::{ReplayFiles, replay_files};
 use jd_base::{Library, NoMemory, ReadRefusal, read_whole};
+use jd_files::{classes_of, one_refusal};
 use jd_first_java::{Program, read_program};
 use jd_first_oblig::{contracts, name_of, obligation};
 use jd_first_script::{Script, read_script};
 use jd_replay::{Verdict, replay};
 use jd_sequent::{RuleSet, ScriptTree, Task};
-use jd_source::one_source;
-use std::alloc::Global;
+use std::alloc::{AllocFailed, Global};
+
+/// The greatest number of Java files.
+const FILES_LIMIT: usize = 64;
 
 /// The greatest length of a proof file in bytes.
 const PROOF_LIMIT: u64 = 16777216;
@@ -52,6 +59,14 @@ impl From<NoMemory> for Stop {
     ghost from_gives = { λ _ e. e ≡ OutOfMemory };
 
     fn from(_error: NoMemory) -> Stop {
+        Stop::NoMemory
+    }
+}
+
+impl<T: Drop> From<AllocFailed<T>> for Stop {
+    ghost from_gives = { λ _ e. e ≡ OutOfMemory };
+
+    fn from(_error: AllocFailed<T>) -> Stop {
         Stop::NoMemory
     }
 }
@@ -129,43 +144,113 @@ fn within_limit(alloc: Global, answer: Answer) -> Result<Answer, NoMemory>
     Ok(answer)
 }
 
-// The answer for the bytes of both files.
+// The program of the first form that the files are, if they are one.
+fn program_of(alloc: Global, files: &[Vec<u8>]) -> Result<Option<Program>, NoMemory>
+    ensures { IfOk result (λ r. MatchOption r (IsNoProgram (map (λ f. f.items) files.now))
+        (λ q. IsOneProgram (map (λ f. f.items) files.now) (program_view q))) }
+{
+    match files {
+        [file] => read_program(alloc, file),
+        _ => Ok(None),
+    }
+}
+
+/// What the Java files are.
+#[derive(Drop)]
+pub enum Understood {
+    /// A program of the first form.
+    Program(Program),
+    /// None: the answer that tells why.
+    Refused(Answer),
+}
+
+// The answer for Java files of these names that are no program's; none where they are.
+fn refused_files(
+    alloc: Global,
+    names: &[String],
+    files: &[Vec<u8>],
+) -> Result<Option<Answer>, NoMemory>
+    requires few { length names.now ≤ files_limit }
+    requires each { length names.now ≡ length files.now }
+    requires within { All (λ f. length f.items ≤ file_limit) files.now }
+    ensures { IfOk result (λ r. MatchOption r (AreProgramClasses (map (λ f. f.items) files.now))
+        (λ a. IsRefusal (word_texts names.now) (map (λ f. f.items) files.now) a.status a.text.items)) }
+{
+    match classes_of(alloc, files) {
+        Ok(_) => Ok(None),
+        Err(refusal) => Ok(Some(refused(alloc, names, refusal)?)),
+    }
+}
+
+// What the Java files of these names are.
+fn understand(alloc: Global, names: &[String], files: &[Vec<u8>]) -> Result<Understood, NoMemory>
+    requires some { 0 < length names.now }
+    requires few { length names.now ≤ files_limit }
+    requires each { length names.now ≡ length files.now }
+    requires within { All (λ f. length f.items ≤ file_limit) files.now }
+    ensures { IfOk result (IsUnderstood (word_texts names.now) (map (λ f. f.items) files.now)) }
+{
+    if let Some(answer) = refused_files(alloc, names, files)? {
+        return Ok(Understood::Refused(answer));
+    }
+    match program_of(alloc, files)? {
+        Some(program) => Ok(Understood::Program(program)),
+        None => Ok(Understood::Refused(Answer {
+            status: Status::RefusedSource,
+            text: unbuilt(alloc, names[0].as_bytes())?,
+        })),
+    }
+}
+
+// The answer for a program and the bytes of the proof file.
+fn answer_for<R: RuleSet>(
+    alloc: Global,
+    rules: &R,
+    program: &Program,
+    name: &[u8],
+    proof: &[u8],
+) -> Result<Answer, NoMemory>
+    requires accepts { AcceptsObligations (R.accepts rules.now) }
+    requires program { IsProgram (program_view program.now) }
+    ensures answer { IfOk result (λ a. IsProofAnswer (leads_of (R.instance rules.now) (program_view program.now)) (causes_of (R.cause rules.now) (program_view program.now)) (program_view program.now) name.now proof.now a.status a.text.items) }
+    ensures status { IfOk result (λ a. IsJudged a.status) }
+{
+    let obligation = name_of(alloc, program)?;
+    let Some(script) = read_script(alloc, proof, &obligation)? else {
+        return Ok(Answer {
+            status: Status::RefusedScript,
+            text: unbuilt(alloc, name)?,
+        });
+    };
+    let report = replayed(alloc, rules, program, &script)?;
+    let answer = within_limit(alloc, report)?;
+    Ok(answer)
+}
+
+// The answer for the bytes of all files.
 fn judged<R: RuleSet>(
     alloc: Global,
     rules: &R,
-    files: &ReplayFiles<'_>,
+    named: &ReplayFiles<'_>,
     proof: &[u8],
-    file: &[u8],
+    files: &[Vec<u8>],
 ) -> Result<Answer, NoMemory>
     requires accepts { AcceptsObligations (R.accepts rules.now) }
-    requires within { length file.now ≤ file_limit }
+    requires some { 0 < length named.now.files.now }
+    requires few { length named.now.files.now ≤ files_limit }
+    requires each { length named.now.files.now ≡ length files.now }
+    requires within { All (λ f. length f.items ≤ file_limit) files.now }
     ensures answer { IfOk result (λ a. (words : List (List ℕ)) (contents : List ℕ → Option (List ℕ))
-        → AreRead words contents files.now.proof.now files.now.file.now proof.now file.now
+        → AreRead words contents named.now.proof.now (word_texts named.now.files.now) proof.now (map (λ f. f.items) files.now)
         → IsAnswer (leads_of (R.instance rules.now)) (causes_of (R.cause rules.now)) words contents a.status a.text.items) }
     ensures status { IfOk result (λ a. IsJudged a.status) }
 {
-    if let Some(text) = refused(alloc, files.file.as_bytes(), file)? {
-        return Ok(Answer {
-            status: Status::RefusedSource,
-            text,
-        });
+    match understand(alloc, named.files, files)? {
+        Understood::Refused(answer) => Ok(answer),
+        Understood::Program(program) => {
+            answer_for(alloc, rules, &program, named.proof.as_bytes(), proof)
+        }
     }
-    let Some(program) = read_program(alloc, file)? else {
-        return Ok(Answer {
-            status: Status::RefusedSource,
-            text: unbuilt(alloc, files.file.as_bytes())?,
-        });
-    };
-    let name = name_of(alloc, &program)?;
-    let Some(script) = read_script(alloc, proof, &name)? else {
-        return Ok(Answer {
-            status: Status::RefusedScript,
-            text: unbuilt(alloc, files.proof.as_bytes())?,
-        });
-    };
-    let report = replayed(alloc, rules, &program, &script)?;
-    let answer = within_limit(alloc, report)?;
-    Ok(answer)
 }
 
 // The bytes of a file; none where it is longer than the limit.
@@ -194,6 +279,34 @@ fn read_within<L: Library>(
     }
 }
 
+// The bytes of files; none where one of them is longer than the limit.
+fn read_files<L: Library>(
+    alloc: Global,
+    library: &mut L,
+    names: &[String],
+) -> Result<Option<Vec<Vec<u8>>>, Stop>
+    ensures read { IfOk result (λ r. AreTold (L.contents library.old) (word_texts names.now)
+        → MatchOption r (HaveLongFile (L.contents library.old) (word_texts names.now))
+        (λ v. HaveBytes (L.contents library.old) (word_texts names.now) (map (λ f. f.items) v.items))) }
+    ensures each { IfOk result (λ r. IfSome r (λ v. length names.now ≡ length v.items)) }
+    ensures within { IfOk result (λ r. IfSome r (λ v. All (λ f. length f.items ≤ file_limit) v.items)) }
+
+    ensures fault { IsErrOf result Stop.ReadFault
+        → HasRisen (word_texts names.now) (L.faults library.old) (L.faults library.new) }
+    ensures no_fault { OnOk result (SameCounts (L.faults library.old) (L.faults library.new)) }
+    ensures no_memory_no_fault { IsErrOf result Stop.NoMemory
+        → SameCounts (L.faults library.old) (L.faults library.new) }
+{
+    let mut files = Vec::new(alloc);
+    for name in names {
+        let Some(bytes) = read_within(alloc, library, name.as_str(), FILE_LIMIT)? else {
+            return Ok(None);
+        };
+        files.push(bytes)?;
+    }
+    Ok(Some(files))
+}
+
 /// The answer for the words of a call.
 ///
 /// # Errors
@@ -219,25 +332,31 @@ pub fn answer_to<R: RuleSet, L: Library>(
     ensures always_read_fault { HasMoreFaults (word_texts words.now) (L.faults library.old) (L.faults library.new)
         → IsErrOf result Stop.ReadFault }
 {
-    let Some(files) = replay_files(words) else {
+    let Some(named) = replay_files(words) else {
         return Ok(Answer {
             status: Status::Usage,
             text: usage(alloc)?,
         });
     };
-    let Some(proof) = read_within(alloc, library, files.proof, PROOF_LIMIT)? else {
+    if named.files.len() > FILES_LIMIT {
+        return Ok(Answer {
+            status: Status::Limit,
+            text: too_many_files(alloc)?,
+        });
+    }
+    let Some(proof) = read_within(alloc, library, named.proof, PROOF_LIMIT)? else {
         return Ok(Answer {
             status: Status::Limit,
             text: proof_too_long(alloc)?,
         });
     };
-    let Some(file) = read_within(alloc, library, files.file, FILE_LIMIT)? else {
+    let Some(files) = read_files(alloc, library, named.files)? else {
         return Ok(Answer {
             status: Status::Limit,
             text: file_too_long(alloc)?,
         });
     };
-    Ok(judged(alloc, rules, &files, &proof, &file)?)
+    Ok(judged(alloc, rules, &named, &proof, &files)?)
 }
 
 /// Words and contents have one answer, up to the place of a Java file that is none, or that nests too deep.
@@ -247,5 +366,5 @@ pub fn one_answer<R: RuleSet>(_rules: &R)
         → IsAnswer (leads_of (R.instance _rules.now)) (causes_of (R.cause _rules.now)) words contents other another
         → SameAnswer status text other another }
 {
-    one_source();
+    one_refusal();
 }

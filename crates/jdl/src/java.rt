@@ -1,16 +1,22 @@
-//! Java files that are refused, and why.
+//! What is told of Java files that are no program's.
 
-ghost use Rattle.std.specs.Prelude.{◌≡◌, ◌≤◌, ◌++◌, ◌∷◌, length, codes, IfOk, OnOk, MatchOption};
+ghost use Rattle.std.specs.Prelude.{◌≡◌, ◌<◌, ◌++◌, ◌∷◌, length, codes, IfOk, OnOk, MatchOption, option_map};
 ghost use Rattle.jd_source.specs.Sources.{reason_of};
 ghost use Rattle.jd_source.specs.declared.read.SourceRefusal.TheVariants.{Lexical, Grammatical};
-ghost use Rattle.jdl.specs.Reports.{placed_text, reason_text, refusal_text};
-ghost use Rattle.jdl.specs.Sources.{IsFile, IsRefusedFile};
+ghost use Rattle.jd_files.specs.Refusals.{IsInFiles, OfClasses, OfFile, class_refusal_of};
+ghost use Rattle.jdl.specs.Refusing.{NamesOneOf, TellsOf, TellsPlace, plain_refusal};
+ghost use Rattle.jdl.specs.Reports.{class_refusal_text, placed_text, reason_text, refusal_text};
+ghost use Rattle.jdl.specs.Words.{word_texts};
 
-use crate::text::add_decimal;
+use crate::answer::Answer;
+use crate::status::Status;
+use crate::text::{add_decimal, too_many_classes, too_many_methods};
 use jd_base::{NoMemory, copy_bytes};
+use jd_classes::ClassRefusal;
+use jd_files::FilesRefusal;
 use jd_jparse::ParseRefusal;
 use jd_lex::LexRefusal;
-use jd_source::{SourceRefusal, read_source};
+use jd_source::SourceRefusal;
 use std::alloc::Global;
 
 // Adds a kind of refusal and its place.
@@ -82,13 +88,96 @@ fn refusal_line(alloc: Global, name: &[u8], refusal: &SourceRefusal) -> Result<V
     Ok(out)
 }
 
-/// The line for the bytes of a Java file that is refused; none where they are one.
-pub fn refused(alloc: Global, name: &[u8], bytes: &[u8]) -> Result<Option<Vec<u8>>, NoMemory>
-    requires { length bytes.now ≤ 1048576 }
-    ensures { IfOk result (λ line. MatchOption line (IsFile bytes.now) (λ v. IsRefusedFile name.now bytes.now v.items)) }
+// The line that tells why classes are refused.
+fn class_refusal_line(alloc: Global, name: &[u8], kind: &[u8], at: u32) -> Result<Vec<u8>, NoMemory>
+    ensures { IfOk result (λ v. v.items ≡ class_refusal_text name.now kind.now at) }
 {
-    match read_source(alloc, bytes) {
-        Ok(_) => Ok(None),
-        Err(refusal) => Ok(Some(refusal_line(alloc, name, &refusal)?)),
+    let mut out = copy_bytes(alloc, b"refused ")?;
+    out.extend_from_slice(name)?;
+    out.push(b' ')?;
+    add_placed(alloc, &mut out, kind, at)?;
+    out.push(b'\n')?;
+    Ok(out)
+}
+
+// The answer for a refusal of classes that has a place in the file of this number.
+fn placed(
+    alloc: Global,
+    names: &[String],
+    kind: &[u8],
+    file: u32,
+    at: u32,
+) -> Result<Answer, NoMemory>
+    requires { file < length names.now }
+    ensures { IfOk result (λ a. TellsPlace (word_texts names.now) kind.now file at a.status a.text.items) }
+{
+    let name = names[file as usize].as_bytes();
+    Ok(Answer {
+        status: Status::RefusedSource,
+        text: class_refusal_line(alloc, name, kind, at)?,
+    })
+}
+
+// The answer for a refusal of classes.
+fn classes_answer(
+    alloc: Global,
+    names: &[String],
+    refusal: ClassRefusal,
+) -> Result<Answer, NoMemory>
+    requires { IsInFiles refusal (length names.now) }
+    ensures { IfOk result (λ a. TellsOf (word_texts names.now) (option_map OfClasses (class_refusal_of refusal)) a.status a.text.items) }
+{
+    match refusal {
+        ClassRefusal::DuplicateClass { file, at } => {
+            placed(alloc, names, b"DuplicateClass", file, at)
+        }
+        ClassRefusal::UnknownSuper { file, at } => placed(alloc, names, b"UnknownSuper", file, at),
+        ClassRefusal::CyclicExtends { file, at } => {
+            placed(alloc, names, b"CyclicExtends", file, at)
+        }
+        ClassRefusal::DuplicateMember { file, at } => {
+            placed(alloc, names, b"DuplicateMember", file, at)
+        }
+        ClassRefusal::Hiding { file, at } => placed(alloc, names, b"Hiding", file, at),
+        ClassRefusal::Overload { file, at } => placed(alloc, names, b"Overload", file, at),
+        ClassRefusal::BadOverride { file, at } => placed(alloc, names, b"BadOverride", file, at),
+        ClassRefusal::TooManyClasses => Ok(Answer {
+            status: Status::Limit,
+            text: too_many_classes(alloc)?,
+        }),
+        ClassRefusal::TooManyMethods => Ok(Answer {
+            status: Status::Limit,
+            text: too_many_methods(alloc)?,
+        }),
+        ClassRefusal::NoMemory => Err(NoMemory),
+    }
+}
+
+// The answer for the file of this number, which is none.
+fn file_answer(
+    alloc: Global,
+    names: &[String],
+    number: u32,
+    refusal: &SourceRefusal,
+) -> Result<Answer, NoMemory>
+    requires { number < length names.now }
+    ensures { IfOk result (λ a. TellsOf (word_texts names.now) (option_map (OfFile number) (reason_of refusal.now)) a.status a.text.items) }
+{
+    let name = names[number as usize].as_bytes();
+    Ok(Answer {
+        status: Status::RefusedSource,
+        text: refusal_line(alloc, name, refusal)?,
+    })
+}
+
+/// The answer for files of these names that are no program's.
+pub fn refused(alloc: Global, names: &[String], refusal: FilesRefusal) -> Result<Answer, NoMemory>
+    requires { NamesOneOf refusal (length names.now) }
+    ensures { IfOk result (λ a. TellsOf (word_texts names.now) (plain_refusal refusal) a.status a.text.items) }
+{
+    match refusal {
+        FilesRefusal::File(number, refusal) => file_answer(alloc, names, number, &refusal),
+        FilesRefusal::Classes(refusal) => classes_answer(alloc, names, refusal),
+        FilesRefusal::NoMemory => Err(NoMemory),
     }
 }

@@ -2,6 +2,8 @@
 #![tactic(auto)]
 
 mod answer;
+#[cfg(test)]
+mod file_tests;
 mod java;
 mod report;
 mod run;

@@ -1,7 +1,10 @@
 use crate::report::{missing, text_of};
 use crate::run::run;
 use crate::status::Status;
-use crate::text::{add_decimal, file_too_long, proof_too_long, report_too_long, unbuilt, usage};
+use crate::text::{
+    add_decimal, file_too_long, proof_too_long, report_too_long, too_many_classes, too_many_files,
+    too_many_methods, unbuilt, usage,
+};
 use crate::words::replay_files;
 use jd_base::{MemoryLibrary, MemorySink};
 use jd_replay::{Cause, Verdict};
@@ -25,7 +28,8 @@ fn words(rt: HostRuntime) -> Result<(), Fail> {
         return Err(Fail::from("no files"));
     };
     assert_eq!(rt; files.proof, "a.proof");
-    assert_eq!(rt; files.file, "A.java");
+    assert_eq!(rt; files.files.len(), 1);
+    assert_eq!(rt; files.files[0].as_str(), "A.java");
     let dash = words_of(alloc, &["replay", "a-b", "A-.java"])?;
     assert!(rt; replay_files(&dash).is_some());
     for refused in [
@@ -35,6 +39,7 @@ fn words(rt: HostRuntime) -> Result<(), Fail> {
         ["replay", "a.proof", ""],
         ["Replay", "a.proof", "A.java"],
         ["check", "a.proof", "A.java"],
+        ["replay", "a.proof", "-A.java"],
     ] {
         let words = words_of(alloc, &refused)?;
         assert!(rt; replay_files(&words).is_none());
@@ -43,7 +48,12 @@ fn words(rt: HostRuntime) -> Result<(), Fail> {
         assert!(rt; replay_files(&words_of(alloc, few)?).is_none());
     }
     let many = words_of(alloc, &["replay", "a.proof", "A.java", "B.java"])?;
-    assert!(rt; replay_files(&many).is_none());
+    let Some(files) = replay_files(&many) else {
+        return Err(Fail::from("no files"));
+    };
+    assert_eq!(rt; files.files.len(), 2);
+    let last = words_of(alloc, &["replay", "a.proof", "A.java", "-"])?;
+    assert!(rt; replay_files(&last).is_none());
     Ok(())
 }
 
@@ -83,6 +93,18 @@ fn lines(rt: HostRuntime) -> Result<(), Fail> {
     assert_eq!(rt;
         file_too_long(alloc)?.as_slice(),
         b"limit file-bytes 1048576\n".as_slice()
+    );
+    assert_eq!(rt;
+        too_many_files(alloc)?.as_slice(),
+        b"limit files 64\n".as_slice()
+    );
+    assert_eq!(rt;
+        too_many_classes(alloc)?.as_slice(),
+        b"limit classes 256\n".as_slice()
+    );
+    assert_eq!(rt;
+        too_many_methods(alloc)?.as_slice(),
+        b"limit methods 2048\n".as_slice()
     );
     assert_eq!(rt;
         report_too_long(alloc)?.as_slice(),

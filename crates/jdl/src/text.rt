@@ -1,6 +1,6 @@
 ghost use Rattle.std.specs.Prelude.{◌≡◌, ◌++◌, IfOk, OnOk};
 ghost use Rattle.std.specs.Fmt.{decimal};
-ghost use Rattle.jdl.specs.Reports.{line, usage_text, unbuilt_text, proof_limit_text, file_limit_text, report_limit_text};
+ghost use Rattle.jdl.specs.Reports.{class_limit_text, file_limit_text, files_limit_text, line, method_limit_text, proof_limit_text, report_limit_text, unbuilt_text, usage_text};
 
 use jd_base::{NoMemory, copy_bytes};
 use std::alloc::Global;
@@ -28,6 +28,27 @@ pub fn usage(alloc: Global) -> Result<Vec<u8>, NoMemory>
     ensures { IfOk result (λ v. v.items ≡ usage_text) }
 {
     line_of(alloc, b"usage: jdl COMMAND ARGUMENT..")
+}
+
+/// The line for too many Java files.
+pub fn too_many_files(alloc: Global) -> Result<Vec<u8>, NoMemory>
+    ensures { IfOk result (λ v. v.items ≡ files_limit_text) }
+{
+    line_of(alloc, b"limit files 64")
+}
+
+/// The line for too many classes.
+pub fn too_many_classes(alloc: Global) -> Result<Vec<u8>, NoMemory>
+    ensures { IfOk result (λ v. v.items ≡ class_limit_text) }
+{
+    line_of(alloc, b"limit classes 256")
+}
+
+/// The line for too many methods.
+pub fn too_many_methods(alloc: Global) -> Result<Vec<u8>, NoMemory>
+    ensures { IfOk result (λ v. v.items ≡ method_limit_text) }
+{
+    line_of(alloc, b"limit methods 2048")
 }
 
 /// The line for a proof file that is too long.

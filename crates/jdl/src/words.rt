@@ -1,13 +1,14 @@
 ghost use Rattle.std.specs.Prelude.{◌≡◌, Some, None, MatchOption};
+ghost use Rattle.std.specs.List.{list_all};
 ghost use Rattle.jdl.specs.Words.{word_texts, is_file_name, replay_words};
 
-/// The files of `replay PROOF FILE`.
+/// The files of `replay PROOF FILE+`.
 #[derive(Clone, Copy)]
 pub struct ReplayFiles<'a> {
     /// The path of the proof file.
     pub proof: &'a str,
-    /// The path of the Java file.
-    pub file: &'a str,
+    /// The paths of the Java files, of which there is one at least.
+    pub files: &'a [String],
 }
 
 // Whether a word is not empty and does not begin with `-`.
@@ -20,18 +21,31 @@ fn names_file(word: &str) -> bool
     }
 }
 
-/// The files that the words name, if they are `replay PROOF FILE`.
+// Whether each word is such a one.
+fn name_files(words: &[String]) -> bool
+    ensures { result ≡ list_all is_file_name (word_texts words.now) }
+{
+    let mut all = true;
+    for word in words {
+        all = names_file(word.as_str()) && all;
+    }
+    all
+}
+
+/// The files that the words name, if they are `replay PROOF FILE+`.
 pub fn replay_files<'a>(words: &'a [String]) -> Option<ReplayFiles<'a>>
     ensures { MatchOption result (replay_words (word_texts words.now) ≡ None)
-        (λ files. replay_words (word_texts words.now) ≡ Some (files.proof.now, files.file.now)) }
+        (λ named. replay_words (word_texts words.now) ≡ Some (named.proof.now, word_texts named.files.now)) }
 {
-    let [command, proof, file] = words else {
+    let [command, proof, files @ ..] = words else {
         return None;
     };
     let proof = proof.as_str();
-    let file = file.as_str();
-    if command.as_str() == "replay" && names_file(proof) && names_file(file) {
-        Some(ReplayFiles { proof, file })
+    if files.is_empty() {
+        return None;
+    }
+    if command.as_str() == "replay" && names_file(proof) && name_files(files) {
+        Some(ReplayFiles { proof, files })
     } else {
         None
     }

@@ -1,31 +1,29 @@
-use Rattle.std.proofs.Common.{◌∙◌}
+use Rattle.std.proofs.Common.{ℕ, List, Option, map, subst}
+use Rattle.std.proofs.lemmas.Result.{IfOk-weaker}
 use Rattle.jd_first_java.specs.Reads.{program_view}
-use Rattle.jd_first_script.specs.Scripts.{script_view}
-use Rattle.jdl.specs.Answers.{leads_of, causes_of}
-use Rattle.jdl.proofs.Judged.{not_read, not_built, script_refused, limited_report}
+use Rattle.jdl.specs.Answers.{AreRead, IsAnswer, IsProofAnswer, causes_of, judged, leads_of, refused}
+use Rattle.jdl.specs.Words.{word_texts}
+use Rattle.jdl.proofs.Outcomes.{refusal_is_judged}
 use Rattle.jdl.proofs.answer.judged.Goals as goal
 
-pub returns-in-Some-clause-answer : goal.returns-in-Some-clause-answer
-returns-in-Some-clause-answer g c = λ words contents read.
-    let refused = rw c.in-Some.is at c.in_ok-text.ensures in
-    not_read (leads_of (g.R.RuleSet.instance c.args.rules.now)) (causes_of (g.R.RuleSet.cause c.args.rules.now)) words contents c.args.files.now.proof.now c.args.files.now.file.now c.args.proof.now c.args.file.now _ _ read refused c.as_bytes.ensures.value
+pub returns-in-Refused-clause-answer : goal.returns-in-Refused-clause-answer
+returns-in-Refused-clause-answer g c = λ words contents read.
+    let refusal = rw c.in-Refused.is at c.in_ok-answer.ensures in
+    refused c.args.named.now.proof.now c.args.proof.now (word_texts c.args.named.now.files.now) (map (λ f. f.items) c.args.files.now) _ _ read refusal
 
-pub returns-in_default-2-clause-answer : goal.returns-in_default-2-clause-answer
-returns-in_default-2-clause-answer g c = λ words contents read.
-    let file = rw c.in_default.is at c.in_ok-text.ensures in
-    let none = rw c.in_default-2.is at c.in_ok-program.ensures in
-    not_built (leads_of (g.R.RuleSet.instance c.args.rules.now)) (causes_of (g.R.RuleSet.cause c.args.rules.now)) words contents c.args.files.now.proof.now c.args.files.now.file.now c.args.proof.now c.args.file.now _ _ read file none c.as_bytes-in_default-2.ensures.value c.in_ok-unbuilt.ensures
+pub returns-in-Refused-clause-status : goal.returns-in-Refused-clause-status
+returns-in-Refused-clause-status g c =
+    let refusal = rw c.in-Refused.is at c.in_ok-answer.ensures in
+    refusal_is_judged (word_texts c.args.named.now.files.now) (map (λ f. f.items) c.args.files.now) _ _ refusal
 
-pub returns-in_default-3-clause-answer : goal.returns-in_default-3-clause-answer
-returns-in_default-3-clause-answer g c = λ words contents read.
-    let file = rw c.in_default.is at c.in_ok-text.ensures in
-    let reads = rw c.in-Some-2.is at c.in_ok-program.ensures in
-    let none = rw c.in_default-3.is at c.in_ok-script.ensures in
-    script_refused (leads_of (g.R.RuleSet.instance c.args.rules.now)) (causes_of (g.R.RuleSet.cause c.args.rules.now)) words contents c.args.files.now.proof.now c.args.files.now.file.now c.args.proof.now c.args.file.now _ _ _ (program_view c.in-Some-2.program) read (record { file = file; reads = reads }) (c.deref.ensures.value ∙ c.in_ok-name.ensures) none c.as_bytes-in_default-3.ensures.value c.in_ok-unbuilt-2.ensures
-
-pub returns-clause-answer : goal.returns-clause-answer
-returns-clause-answer g c = λ words contents read.
-    let file = rw c.in_default.is at c.in_ok-text.ensures in
-    let reads = rw c.in-Some-2.is at c.in_ok-program.ensures in
-    let script_reads = rw c.in-Some-3.is at c.in_ok-script.ensures in
-    limited_report (leads_of (g.R.RuleSet.instance c.args.rules.now)) (causes_of (g.R.RuleSet.cause c.args.rules.now)) words contents c.args.files.now.proof.now c.args.files.now.file.now c.args.proof.now c.args.file.now _ (program_view c.in-Some-2.program) (script_view c.in-Some-3.script) _ _ _ _ read (record { file = file; reads = reads }) (c.deref.ensures.value ∙ c.in_ok-name.ensures) script_reads c.in_ok-report.ensures.report c.in_ok-answer.ensures.long c.in_ok-answer.ensures.short
+pub returns-in-Program-clause-answer : goal.returns-in-Program-clause-answer
+returns-in-Program-clause-answer g c =
+    let q = program_view c.in-Program.program in
+    let names = word_texts c.args.named.now.files.now in
+    let files = map (λ f. f.items) c.args.files.now in
+    let program = rw c.in-Program.is at c.in_ok-answer.ensures in
+    let leads = leads_of (g.R.RuleSet.instance c.args.rules.now) in
+    let causes = causes_of (g.R.RuleSet.cause c.args.rules.now) in
+    IfOk-weaker c.answer_for.result (λ a. IsProofAnswer (leads q) (causes q) q c.as_bytes.result.now c.args.proof.now a.status a.text.items)
+    (λ a. (words : List (List ℕ)) (contents : List ℕ → Option (List ℕ)) → AreRead words contents c.args.named.now.proof.now names c.args.proof.now files → IsAnswer leads causes words contents a.status a.text.items)
+    (λ a answer words contents read. judged c.args.named.now.proof.now c.args.proof.now names files q a.status a.text.items read program (subst (λ n. IsProofAnswer (leads q) (causes q) q n c.args.proof.now a.status a.text.items) c.as_bytes.ensures.value answer)) c.answer_for.ensures.answer

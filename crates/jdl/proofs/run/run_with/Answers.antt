@@ -22,7 +22,7 @@ returns-in-Ok-clause-kept g c = λ is told.
 
 pub returns-in-Ok-clause-not_accepted : goal.returns-in-Ok-clause-not_accepted
 returns-in-Ok-clause-not_accepted g c = λ is told.
-    answer_not_accepted (leads_of (g.R.RuleSet.instance c.args.rules.now)) (causes_of (g.R.RuleSet.cause c.args.rules.now)) (λ q s p ps qs l m. g.met.R.RuleSet.one_way c.args.rules.now (task_of q) s p ps qs l.0 m.0) (λ q s p ps n l h. g.met.R.RuleSet.has_no_cause c.args.rules.now (task_of q) s p ps n l h) (word_texts c.args.words.now) (g.L.Library.contents c.args.library.now) _ _ (c.in-Ok.ensures.answer told) (answered_so _ _ NotAccepted c.write_answer.ensures.either (λ e. cc) is)
+    answer_not_accepted (leads_of (g.R.RuleSet.instance c.args.rules.now)) (causes_of (g.R.RuleSet.cause c.args.rules.now)) (word_texts c.args.words.now) (g.L.Library.contents c.args.library.now) (λ q s p ps qs l m. g.met.R.RuleSet.one_way c.args.rules.now (task_of q) s p ps qs l.0 m.0) (λ q s p ps n l h. g.met.R.RuleSet.has_no_cause c.args.rules.now (task_of q) s p ps n l h) _ _ (c.in-Ok.ensures.answer told) (answered_so _ _ NotAccepted c.write_answer.ensures.either (λ e. cc) is)
 
 pub returns-in-Ok-clause-refused_source : goal.returns-in-Ok-clause-refused_source
 returns-in-Ok-clause-refused_source g c = λ is told.

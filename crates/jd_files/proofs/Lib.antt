@@ -1,0 +1,4 @@
+pub mod ClassRefusals
+pub mod OneRefusal
+pub mod Sizes
+pub mod Trees

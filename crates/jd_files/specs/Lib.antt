@@ -1,0 +1,4 @@
+pub mod Files
+pub mod Laws
+pub mod Readings
+pub mod Refusals
