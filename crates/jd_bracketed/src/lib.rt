@@ -12,6 +12,7 @@ mod tokens;
 mod whole;
 
 pub use laws::{one_answer, one_lexing};
+pub use reading::{Reading, Stop, stepped};
 pub use refusal::SxRefusal;
 pub use token::{Kind, Token};
 pub use tokens::Tokens;

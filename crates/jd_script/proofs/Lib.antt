@@ -1,0 +1,5 @@
+pub mod Numbers
+pub mod NameSets
+pub mod Children
+pub mod Between
+pub mod Turns

@@ -1,0 +1,5 @@
+pub mod ProofViews
+pub mod PartViews
+pub mod TurnViews
+pub mod StageViews
+pub mod Answers

@@ -1,0 +1,12 @@
+pub mod PlaceText
+pub mod Runs
+pub mod NewNames
+pub mod Complete
+pub mod Parts
+pub mod Open
+pub mod Sound
+pub mod Fronts
+pub mod Looser
+pub mod Named
+pub mod Causes
+pub mod Once

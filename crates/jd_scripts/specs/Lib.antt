@@ -1,0 +1,7 @@
+pub mod Places
+pub mod ReadPlaces
+pub mod Scripts
+pub mod Answers
+pub mod Machine
+pub mod Results
+pub mod Laws
