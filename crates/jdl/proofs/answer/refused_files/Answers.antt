@@ -11,5 +11,5 @@ refused-requires c = names_one (map (λ f. f.items) c.args.files.now) c.in-Err.r
 pub returns-in-Ok : goal.returns-in-Ok
 returns-in-Ok c = have_classes (map (λ f. f.items) c.args.files.now) _ c.in-Ok.ensures.tables
 
-pub returns-in_ok-refused-in-Err : goal.returns-in_ok-refused-in-Err
-returns-in_ok-refused-in-Err c = refusal (word_texts c.args.names.now) (map (λ f. f.items) c.args.files.now) c.in-Err.refusal _ _ c.in-Err.ensures.refused c.in_ok-refused-in-Err.ensures
+pub returns : goal.returns
+returns c = refusal (word_texts c.args.names.now) (map (λ f. f.items) c.args.files.now) c.in-Err.refusal _ _ c.in-Err.ensures.refused c.in_ok-refused-in-Err.ensures
