@@ -1,6 +1,6 @@
 //! One token more of a body, and its end.
 
-ghost use Rattle.std.specs.Prelude.{◌≡◌, IfOk, IfErr, OnErr, None, option_map};
+ghost use Rattle.std.specs.Prelude.{◌≡◌, IfOk, IfErr, OnErr, None, option_map, is_some};
 ghost use Rattle.jd_jgrammar.specs.StatementReader as reader;
 ghost use Rattle.jd_jtokens.specs.Terminals.{terminal_view};
 ghost use Rattle.jd_jtrees.specs.CappedBodies.{capped_statements};
@@ -39,7 +39,7 @@ fn stepped(
         Top::WantColon(annotation, label, place) => {
             colon_wanted(limit, annotation, label, place, frames, terminal, at)
         }
-        Top::WantParen(opening) => { Ok(paren_wanted(alloc, limit, opening, frames, terminal, at)) }
+        Top::WantParen(opening) => paren_wanted(alloc, limit, opening, frames, terminal, at),
         Top::InExpression(hole, reading) => {
             step_expression(alloc, limit, hole, reading, frames, terminal, at)
         }
@@ -117,6 +117,16 @@ pub fn start_body(alloc: Global, limit: u16, constructor: bool) -> BodyReading
     BodyReading {
         top: Top::WantBlock(Role::Body(constructor)),
         frames: Vec::new(alloc),
+    }
+}
+
+/// Whether the body is whole.
+pub fn is_whole(limit: u16, reading: &BodyReading) -> bool
+    ensures { result ≡ is_some (reader.ended (capped_statements limit) (body_view reading.now)) }
+{
+    match reading.top {
+        Top::Ended(_) => true,
+        _ => false,
     }
 }
 

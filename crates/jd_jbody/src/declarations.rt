@@ -10,10 +10,10 @@ ghost use Rattle.jd_jstatements.specs.Views.{declared_view, names_view};
 ghost use Rattle.jd_jbody.specs.Views.{body_view, declaration_view, names_before, stack_view};
 
 use crate::reading::{BodyReading, Declaration, Frame, Hole, NamesBefore, Top};
-use crate::stack::at_top;
+use crate::stack::{at_top, in_hole};
 use crate::terminals::{is_comma, is_semicolon, is_set, word_in};
 use jd_base::NoMemory;
-use jd_jexpr::{TypeState, TypeTokens, ended_type, more_type, start, start_type};
+use jd_jexpr::{TypeState, TypeTokens, ended_type, more_type, start_type};
 use jd_jstatements::{Declared, ForHead, Names, local, more_names, one_name};
 use jd_jtokens::Terminal;
 use std::alloc::Global;
@@ -101,8 +101,8 @@ pub(crate) fn has_name(
 {
     if is_set(terminal) {
         let hole = Hole::Initial(declaration, ty, before, name, place, at);
-        let top = Top::InExpression(hole, start(alloc));
-        return Ok(Some(at_top(top, frames)));
+        let next = in_hole(alloc, hole, frames)?;
+        return Ok(Some(next));
     }
     let last = Declared {
         name,

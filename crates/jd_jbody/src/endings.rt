@@ -12,11 +12,11 @@ use crate::declarations::{all_names, declared};
 use crate::reading::{
     BodyReading, Declaration, Frame, Hole, ItemsBefore, ListPlace, NamesBefore, Top,
 };
-use crate::stack::at_top;
+use crate::stack::{at_top, in_hole};
 use crate::terminals::{is_close_paren, is_comma, is_semicolon};
 use crate::want::want;
 use jd_base::NoMemory;
-use jd_jexpr::{TypeTokens, Value, ValueList, first, is_effect, more, start};
+use jd_jexpr::{TypeTokens, Value, ValueList, first, is_effect, more};
 use jd_jstatements::{
     Annotation, Declared, ForHead, ForOpen, Initial, evaluated, returned, thrown,
 };
@@ -52,12 +52,12 @@ fn list_goes_on(
     items: ValueList,
     comma: u32,
     frames: Vec<Frame>,
-) -> Option<BodyReading>
-    ensures { option_map body_view result ≡ reader.list_goes_on (capped_statements limit) (list_place_view list) (list_view items) comma (stack_view frames.items) }
+) -> Result<Option<BodyReading>, NoMemory>
+    ensures { IfOk result (λ o. option_map body_view o ≡ reader.list_goes_on (capped_statements limit) (list_place_view list) (list_view items) comma (stack_view frames.items)) }
 {
     let before = ItemsBefore { items, comma };
-    let hole = Hole::InList(list, Some(before));
-    Some(at_top(Top::InExpression(hole, start(alloc)), frames))
+    let next = in_hole(alloc, Hole::InList(list, Some(before)), frames)?;
+    Ok(Some(next))
 }
 
 // A token behind an expression at the head of a `for` (JLS 14.14.1).
@@ -69,17 +69,17 @@ fn end_start(
     frames: Vec<Frame>,
     terminal: &Terminal<'_>,
     at: u32,
-) -> Option<BodyReading>
-    ensures { option_map body_view result ≡ reader.end_start (capped_statements limit) (open_view begun) (list_view items) (stack_view frames.items) (terminal_view terminal.now) at }
+) -> Result<Option<BodyReading>, NoMemory>
+    ensures { IfOk result (λ o. option_map body_view o ≡ reader.end_start (capped_statements limit) (open_view begun) (list_view items) (stack_view frames.items) (terminal_view terminal.now) at) }
 {
     if is_comma(terminal) {
         return list_goes_on(alloc, limit, ListPlace::StartOf(begun), items, at, frames);
     }
     if is_semicolon(terminal) {
         let head = ForHead::Lists(items);
-        return Some(at_top(Top::WantTest(begun, head, at), frames));
+        return Ok(Some(at_top(Top::WantTest(begun, head, at), frames)));
     }
-    None
+    Ok(None)
 }
 
 // A token behind an expression of the update of a `for` (JLS 14.14.1).
@@ -100,7 +100,7 @@ fn end_update(
 {
     if is_comma(terminal) {
         let list = ListPlace::UpdateOf(begun, head, semicolon, condition, second);
-        return Ok(list_goes_on(alloc, limit, list, items, at, frames));
+        return list_goes_on(alloc, limit, list, items, at, frames);
     }
     if is_close_paren(terminal) {
         let update = Some(items);
@@ -121,8 +121,8 @@ fn end_super(
     frames: Vec<Frame>,
     terminal: &Terminal<'_>,
     at: u32,
-) -> Option<BodyReading>
-    ensures { option_map body_view result ≡ reader.end_super (capped_statements limit) start paren (list_view items) (stack_view frames.items) (terminal_view terminal.now) at }
+) -> Result<Option<BodyReading>, NoMemory>
+    ensures { IfOk result (λ o. option_map body_view o ≡ reader.end_super (capped_statements limit) start paren (list_view items) (stack_view frames.items) (terminal_view terminal.now) at) }
 {
     if is_comma(terminal) {
         let list = ListPlace::SuperOf(start, paren);
@@ -130,9 +130,9 @@ fn end_super(
     }
     if is_close_paren(terminal) {
         let top = Top::EndSuper(start, paren, Some(items), at);
-        return Some(at_top(top, frames));
+        return Ok(Some(at_top(top, frames)));
     }
-    None
+    Ok(None)
 }
 
 // A token behind an expression of a list; those of a `for` may stand as statements (JLS 14.14.1).
@@ -155,7 +155,7 @@ fn end_item(
             if !effect {
                 return Ok(None);
             }
-            Ok(end_start(alloc, limit, begun, items, frames, terminal, at))
+            end_start(alloc, limit, begun, items, frames, terminal, at)
         }
         ListPlace::UpdateOf(begun, head, semicolon, condition, second) => {
             if !effect {
@@ -167,9 +167,9 @@ fn end_item(
             )?;
             Ok(next)
         }
-        ListPlace::SuperOf(start, paren) => Ok(end_super(
-            alloc, limit, start, paren, items, frames, terminal, at,
-        )),
+        ListPlace::SuperOf(start, paren) => {
+            end_super(alloc, limit, start, paren, items, frames, terminal, at)
+        }
     }
 }
 

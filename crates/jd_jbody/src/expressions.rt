@@ -123,18 +123,19 @@ fn turned(
 fn advanced(
     alloc: Global,
     limit: u16,
-    hole: Hole,
+    hole: Box<Hole>,
     reading: Reading,
     frames: Vec<Frame>,
     terminal: &Terminal<'_>,
     at: u32,
 ) -> Result<Option<BodyReading>, NoMemory>
     requires { terminals.name_turns (terminal_view terminal.now) (reading_view reading) ≡ false }
-    ensures { IfOk result (λ o. option_map body_view o ≡ reader.step_expression (capped_statements limit) (hole_view hole) (reading_view reading) (stack_view frames.items) (terminal_view terminal.now) at) }
+    ensures { IfOk result (λ o. option_map body_view o ≡ reader.step_expression (capped_statements limit) (hole_view hole.value) (reading_view reading) (stack_view frames.items) (terminal_view terminal.now) at) }
 {
     match advance(alloc, limit, reading, terminal, at)? {
         Advance::Goes(next) => Ok(Some(at_top(Top::InExpression(hole, next), frames))),
         Advance::Ends(value) => {
+            let hole = Box::into_inner(hole);
             let next = end_value(alloc, limit, hole, value, frames, terminal, at)?;
             Ok(next)
         }
@@ -146,18 +147,42 @@ fn advanced(
 pub(crate) fn step_expression(
     alloc: Global,
     limit: u16,
-    hole: Hole,
+    hole: Box<Hole>,
     reading: Reading,
     frames: Vec<Frame>,
     terminal: &Terminal<'_>,
     at: u32,
 ) -> Result<Option<BodyReading>, NoMemory>
-    ensures { IfOk result (λ o. option_map body_view o ≡ reader.step_expression (capped_statements limit) (hole_view hole) (reading_view reading) (stack_view frames.items) (terminal_view terminal.now) at) }
+    ensures { IfOk result (λ o. option_map body_view o ≡ reader.step_expression (capped_statements limit) (hole_view hole.value) (reading_view reading) (stack_view frames.items) (terminal_view terminal.now) at) }
 {
     if name_turns(terminal, &reading) {
+        let hole = Box::into_inner(hole);
         return turned(alloc, limit, hole, reading, frames, terminal, at);
     }
     advanced(alloc, limit, hole, reading, frames, terminal, at)
+}
+
+// The hole in a box.
+fn boxed(alloc: Global, hole: Hole) -> Result<Box<Hole>, NoMemory>
+    ensures { IfOk result (λ b. hole_view b.value ≡ hole_view hole) }
+{
+    let hole = Box::new(alloc, hole)?;
+    Ok(hole)
+}
+
+// The first token of an expression in this hole.
+fn start_boxed(
+    alloc: Global,
+    limit: u16,
+    hole: Box<Hole>,
+    frames: Vec<Frame>,
+    terminal: &Terminal<'_>,
+    at: u32,
+) -> Result<Option<BodyReading>, NoMemory>
+    ensures { IfOk result (λ o. option_map body_view o ≡ reader.start_expression (capped_statements limit) (hole_view hole.value) (stack_view frames.items) (terminal_view terminal.now) at) }
+{
+    let next = step_expression(alloc, limit, hole, start(alloc), frames, terminal, at)?;
+    Ok(next)
 }
 
 /// The first token of an expression.
@@ -171,6 +196,7 @@ pub(crate) fn start_expression(
 ) -> Result<Option<BodyReading>, NoMemory>
     ensures { IfOk result (λ o. option_map body_view o ≡ reader.start_expression (capped_statements limit) (hole_view hole) (stack_view frames.items) (terminal_view terminal.now) at) }
 {
-    let next = step_expression(alloc, limit, hole, start(alloc), frames, terminal, at)?;
+    let hole = boxed(alloc, hole)?;
+    let next = start_boxed(alloc, limit, hole, frames, terminal, at)?;
     Ok(next)
 }

@@ -18,7 +18,7 @@ mod terminals;
 mod tests;
 mod want;
 
-pub use body::{ended_body, start_body, step};
+pub use body::{ended_body, is_whole, start_body, step};
 pub use reading::{
     BodyReading, CatchState, Declaration, Frame, Hole, ItemsBefore, ListPlace, NamesBefore,
     Opening, Role, Top,

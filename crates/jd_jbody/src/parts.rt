@@ -10,13 +10,13 @@ ghost use Rattle.jd_jbody.specs.Views.{body_view, opening_view, role_view, stack
 
 use crate::expressions::start_expression;
 use crate::reading::{BodyReading, Declaration, Frame, Hole, ListPlace, Opening, Role, Top};
-use crate::stack::{at_top, push};
+use crate::stack::{at_top, in_hole, push};
 use crate::terminals::{
     is_close_paren, is_colon, is_open_brace, is_open_paren, is_semicolon, type_word, word_in,
 };
 use crate::want::want;
 use jd_base::NoMemory;
-use jd_jexpr::{Value, ValueList, start};
+use jd_jexpr::{Value, ValueList};
 use jd_jstatements::{
     Annotation, ForHead, ForOpen, Jump, Label, jump, no_statements, returned, super_call,
 };
@@ -24,27 +24,29 @@ use jd_jtokens::Terminal;
 use std::alloc::Global;
 
 // `(` behind its word.
-fn opened(alloc: Global, limit: u16, opening: Opening, frames: Vec<Frame>, at: u32) -> BodyReading
-    ensures { body_view result ≡ reader.opened (capped_statements limit) (opening_view opening) (stack_view frames.items) at }
+fn opened(
+    alloc: Global,
+    limit: u16,
+    opening: Opening,
+    frames: Vec<Frame>,
+    at: u32,
+) -> Result<BodyReading, NoMemory>
+    ensures { IfOk result (λ r. body_view r ≡ reader.opened (capped_statements limit) (opening_view opening) (stack_view frames.items) at) }
 {
     match opening {
-        Opening::OpensIf(word) => at_top(
-            Top::InExpression(Hole::IfTest(word, at), start(alloc)),
-            frames,
-        ),
-        Opening::OpensWhile(annotation, word) => at_top(
-            Top::InExpression(Hole::WhileTest(annotation, word, at), start(alloc)),
-            frames,
-        ),
+        Opening::OpensIf(word) => in_hole(alloc, Hole::IfTest(word, at), frames),
+        Opening::OpensWhile(annotation, word) => {
+            in_hole(alloc, Hole::WhileTest(annotation, word, at), frames)
+        }
         Opening::OpensFor(annotation, word) => {
             let begun = ForOpen {
                 annotation,
                 at: word,
                 open: at,
             };
-            at_top(Top::WantStart(begun), frames)
+            Ok(at_top(Top::WantStart(begun), frames))
         }
-        Opening::OpensSuper(word) => at_top(Top::WantArguments(word, at), frames),
+        Opening::OpensSuper(word) => Ok(at_top(Top::WantArguments(word, at), frames)),
     }
 }
 
@@ -56,13 +58,14 @@ pub(crate) fn paren_wanted(
     frames: Vec<Frame>,
     terminal: &Terminal<'_>,
     at: u32,
-) -> Option<BodyReading>
-    ensures { option_map body_view result ≡ reader.step_with (capped_statements limit) (reader.WantParen (opening_view opening) (stack_view frames.items)) (terminal_view terminal.now) at }
+) -> Result<Option<BodyReading>, NoMemory>
+    ensures { IfOk result (λ o. option_map body_view o ≡ reader.step_with (capped_statements limit) (reader.WantParen (opening_view opening) (stack_view frames.items)) (terminal_view terminal.now) at) }
 {
     if !is_open_paren(terminal) {
-        return None;
+        return Ok(None);
     }
-    Some(opened(alloc, limit, opening, frames, at))
+    let next = opened(alloc, limit, opening, frames, at)?;
+    Ok(Some(next))
 }
 
 /// A token where the colon behind a label has to come (JLS 14.7).

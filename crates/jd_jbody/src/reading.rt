@@ -134,7 +134,7 @@ pub enum Top {
     /// `(` has to come.
     WantParen(Opening),
     /// Inside an expression.
-    InExpression(Hole, Reading),
+    InExpression(Box<Hole>, Reading),
     /// Behind a statement, which an `else` may continue.
     Did(Statement),
     /// Behind `final`, a type has to come.

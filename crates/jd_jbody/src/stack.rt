@@ -1,10 +1,13 @@
-ghost use Rattle.std.specs.Prelude.{◌≡◌, [], ◌∷◌, OnOk, MatchOption};
+ghost use Rattle.std.specs.Prelude.{◌≡◌, [], ◌∷◌, IfOk, OnOk, MatchOption};
+ghost use Rattle.jd_jgrammar.specs.ExpressionReader as expression;
 ghost use Rattle.jd_jgrammar.specs.StatementReader as reader;
 ghost use Rattle.jd_jtrees.specs.CappedBodies.{capped_statements};
-ghost use Rattle.jd_jbody.specs.Views.{frame_view, stack_view, body_view, state_of};
+ghost use Rattle.jd_jbody.specs.Views.{frame_view, hole_view, stack_view, body_view, state_of};
 
-use crate::reading::{BodyReading, Frame, Top};
+use crate::reading::{BodyReading, Frame, Hole, Top};
 use jd_base::NoMemory;
+use jd_jexpr::start;
+use std::alloc::Global;
 
 /// What waits is put on the stack.
 pub(crate) fn push(frames: &mut Vec<Frame>, frame: Frame) -> Result<(), NoMemory>
@@ -37,6 +40,18 @@ pub(crate) fn at_top(top: Top, frames: Vec<Frame>) -> BodyReading
     ensures { body_view result ≡ state_of top (stack_view frames.items) }
 {
     BodyReading { top, frames }
+}
+
+/// An expression has to come in the hole.
+pub(crate) fn in_hole(
+    alloc: Global,
+    hole: Hole,
+    frames: Vec<Frame>,
+) -> Result<BodyReading, NoMemory>
+    ensures { IfOk result (λ r. body_view r ≡ reader.InExpression (hole_view hole) (expression.Want []) (stack_view frames.items)) }
+{
+    let hole = Box::new(alloc, hole)?;
+    Ok(at_top(Top::InExpression(hole, start(alloc)), frames))
 }
 
 /// What is not needed any more.

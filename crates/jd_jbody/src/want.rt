@@ -12,10 +12,10 @@ ghost use Rattle.jd_jbody.specs.Views.{body_view, declaration_view, frame_view, 
 use crate::blocks::{end_block, super_wanted};
 use crate::expressions::start_expression;
 use crate::reading::{BodyReading, Declaration, Frame, Hole, Opening, Role, Top};
-use crate::stack::{at_top, is_in_block, push};
+use crate::stack::{at_top, in_hole, is_in_block, push};
 use crate::terminals::{mark_in, type_word, word_in};
 use jd_base::NoMemory;
-use jd_jexpr::{TypeState, start};
+use jd_jexpr::TypeState;
 use jd_jstatements::{Annotation, Jump, empty, no_statements};
 use jd_jtokens::{Mark, Terminal};
 use std::alloc::Global;
@@ -92,8 +92,8 @@ fn mark_wanted(
         Mark::Continue => Ok(Some(at_top(Top::Jumps(Jump::Continue, at), frames))),
         Mark::Return => Ok(Some(at_top(Top::WantResult(at), frames))),
         Mark::Throw => {
-            let top = Top::InExpression(Hole::Thrown(at), start(alloc));
-            Ok(Some(at_top(top, frames)))
+            let next = in_hole(alloc, Hole::Thrown(at), frames)?;
+            Ok(Some(next))
         }
         Mark::Try => Ok(Some(at_top(Top::WantBlock(Role::Tried(at)), frames))),
         Mark::Jml(from, to) => {

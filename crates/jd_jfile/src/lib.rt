@@ -17,3 +17,4 @@ pub use reading::{
     Begun, ClassName, Closed, ConstantName, FileReading, Inside, Kind, ModifierPlace,
     ModifierState, Opened, ParametersBefore,
 };
+pub use routines::body_goes_on;

@@ -66,8 +66,8 @@ fn with_routine(
     }))
 }
 
-// A body that is whole ends its routine.
-fn body_goes_on(
+/// A body that is whole ends its routine; another goes on.
+pub fn body_goes_on(
     alloc: Global,
     limit: u16,
     closed: Box<Closed>,

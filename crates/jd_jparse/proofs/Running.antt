@@ -1,12 +1,17 @@
 -- Turns of the loop that reads a file's terminals: what is left leads on to what all of them lead to.
-use Rattle.std.proofs.Common.{◌≡◌, ℕ, ◌+◌, ◌<◌, ◌≤◌, List, ◌∷◌, length, map, drop, get_or, Option, Some, None, option_and_then, sym, ap, ◌∙◌}
-use Rattle.std.proofs.lemmas.List.{at_drop_all, drop_more}
+use Rattle.std.proofs.Common.{◌≡◌, ℕ, ◌+◌, ◌-◌, ◌<◌, ◌≤◌, List, ◌∷◌, length, length-drop, map, drop, take, get_or, Bool, false, Option, Some, None, is_some, option_and_then, refl, sym, ap, subst, true≢false, arith, ◌∙◌}
+use Rattle.std.proofs.lemmas.List.{at_drop_all, drop-drop, drop-map, drop_more, length-map, take_all}
 use Rattle.jd_jgrammar.specs.Tokens.{Token, Tokens}
+use Rattle.jd_jgrammar.specs.StatementReader as body
 use Rattle.jd_jgrammar.specs.UnitReader as reader
 use Rattle.jd_jtokens.specs.declared.placed.Placed.{Placed}
 use Rattle.jd_jtokens.specs.Placed.{placed_view}
+use Rattle.jd_jtrees.specs.CappedBodies.{capped_statements}
 use Rattle.jd_jtrees.specs.CappedUnits.{capped_units}
-use Rattle.jd_jfile.specs.Views.{State}
+use Rattle.jd_jbody.specs.Views as bodies
+use Rattle.jd_jfile.specs.Views.{State, RoutineClosed}
+use Rattle.jd_jparse.specs.declared.turns.Turn.{Turn}
+use Rattle.jd_jparse.specs.Runs.{LeadsTo, Turned}
 
 abbrev texts : List Placed → Tokens
 texts ps = map placed_view ps
@@ -35,3 +40,79 @@ stuck_there limit ps i d st r lt e h =
 pub at_the_end : (limit : ℕ) (ps : List Placed) (i : ℕ) (st : State) (r : Option State) → length ps ≤ i → reader.run (capped_units limit) (texts (rest ps i)) st ≡ r → Some st ≡ r
 unfolding reader.run
 at_the_end limit ps i st r le h = sym (at_drop_all (λ (l : List Placed). reader.run (capped_units limit) (texts l) st) ps i le) ∙ h
+
+-- ---- inside a body
+
+pub in_body : (limit : ℕ) (c : RoutineClosed) (s : bodies.State) (t : Token × ℕ) (next : Option bodies.State) → next ≡ body.step (capped_statements limit) s t →
+    reader.step (capped_units limit) (reader.InBody c tt s) t ≡ option_and_then (λ n. Some (reader.body_goes_on (capped_units limit) c tt n)) next
+in_body limit c s (t, q) next e = ap (option_and_then (λ n. Some (reader.body_goes_on (capped_units limit) c tt n))) (sym e)
+
+pub goes_on_inside : (limit : ℕ) (c : RoutineClosed) (s : bodies.State) → is_some (body.ended (capped_statements limit) s) ≡ false →
+    reader.body_goes_on (capped_units limit) c tt s ≡ reader.InBody c tt s
+goes_on_inside limit c (body.Ended b) e = absurd (true≢false e)
+goes_on_inside limit (reader.Closes o xs r) _ e = refl
+
+-- ---- turns of the loop over a body's terminals, in whichever routine
+
+-- in the routine, the terminals from i on lead from the one state where all of them lead from the other
+abbrev Leads : ℕ → List Placed → ℕ → bodies.State → bodies.State → Type 0
+Leads limit ps i s first = (c : RoutineClosed) → reader.run (capped_units limit) (texts (rest ps i)) (reader.InBody c tt s) ≡ reader.run (capped_units limit) (texts ps) (reader.InBody c tt first)
+
+module _ (limit : ℕ) (ps : List Placed) (i : ℕ) (d : Placed) (s first : bodies.State) (lt : i < length ps) (leads : Leads limit ps i s first) where
+  pub body_stops : None ≡ body.step (capped_statements limit) s (placed_view (get_or ps i d)) → (c : RoutineClosed) → reader.run (capped_units limit) (texts ps) (reader.InBody c tt first) ≡ None
+  body_stops e c = sym (stuck_there limit ps i d (reader.InBody c tt s) _ lt (in_body limit c s (placed_view (get_or ps i d)) None e) (leads c))
+
+  pub body_goes_to : (next : bodies.State) → Some next ≡ body.step (capped_statements limit) s (placed_view (get_or ps i d)) → (c : RoutineClosed) →
+      reader.run (capped_units limit) (texts (rest ps (i + 1))) (reader.body_goes_on (capped_units limit) c tt next) ≡ reader.run (capped_units limit) (texts ps) (reader.InBody c tt first)
+  body_goes_to next e c = next_one limit ps i d (reader.InBody c tt s) (reader.body_goes_on (capped_units limit) c tt next) _ lt (in_body limit c s (placed_view (get_or ps i d)) (Some next) e) (leads c)
+
+  pub body_is_whole : (next : bodies.State) → Some next ≡ body.step (capped_statements limit) s (placed_view (get_or ps i d)) → (c : RoutineClosed) →
+      LeadsTo limit (texts ps) (reader.InBody c tt first) (reader.body_goes_on (capped_units limit) c tt next) (i + 1)
+  body_is_whole next e c = record {
+    some = omega arith;
+    within = omega (arith, lt, length-map ps placed_view);
+    leads = sym (ap (λ (ts : Tokens). reader.run (capped_units limit) ts (reader.body_goes_on (capped_units limit) c tt next)) (drop-map placed_view (i + 1) ps) ∙ body_goes_to next e c);
+  }
+
+  pub body_goes : (next : bodies.State) → Some next ≡ body.step (capped_statements limit) s (placed_view (get_or ps i d)) → is_some (body.ended (capped_statements limit) next) ≡ false → Leads limit ps (i + 1) next first
+  body_goes next e inside c = sym (ap (λ (st : State). reader.run (capped_units limit) (texts (rest ps (i + 1))) st) (goes_on_inside limit c next inside)) ∙ body_goes_to next e c
+
+pub body_inside : (limit : ℕ) (ps : List Placed) (i : ℕ) (s first : bodies.State) → length ps ≤ i → Leads limit ps i s first → (c : RoutineClosed) →
+    reader.run (capped_units limit) (texts ps) (reader.InBody c tt first) ≡ Some (reader.InBody c tt s)
+body_inside limit ps i s first le leads c = sym (at_the_end limit ps i (reader.InBody c tt s) _ le (leads c))
+
+-- the routine goes on behind its body
+pub body_ends : (limit : ℕ) (ts : Tokens) (s : bodies.State) (c : RoutineClosed) (whole : bodies.State) (to : State) (n : ℕ) →
+    to ≡ reader.body_goes_on (capped_units limit) c tt whole → LeadsTo limit ts (reader.InBody c tt s) (reader.body_goes_on (capped_units limit) c tt whole) n → LeadsTo limit ts (reader.InBody c tt s) to n
+body_ends limit ts s c whole to n e h = subst (λ (st : State). LeadsTo limit ts (reader.InBody c tt s) st n) (sym e) h
+
+-- ---- the first terminal
+
+pub first_goes : (limit : ℕ) (ps : List Placed) (d : Placed) (s next : State) → 0 < length ps → Some next ≡ reader.step (capped_units limit) s (placed_view (get_or ps 0 d)) → LeadsTo limit (texts ps) s next 1
+first_goes limit ps d s next lt e = record {
+  some = omega arith;
+  within = omega (arith, lt, length-map ps placed_view);
+  leads = sym (ap (λ (ts : Tokens). reader.run (capped_units limit) ts next) (drop-map placed_view 1 ps) ∙ next_one limit ps 0 d s next _ lt (sym e) refl);
+}
+
+pub first_stops : (limit : ℕ) (ps : List Placed) (d : Placed) (s : State) → 0 < length ps → None ≡ reader.step (capped_units limit) s (placed_view (get_or ps 0 d)) → reader.run (capped_units limit) (texts ps) s ≡ None
+first_stops limit ps d s lt e = sym (stuck_there limit ps 0 d s _ lt (sym e) refl)
+
+-- ---- several terminals at once
+
+pub leads_on : (limit : ℕ) (ps : List Placed) (i n : ℕ) (s to : State) (r : Option State) → LeadsTo limit (texts (rest ps i)) s to n →
+    reader.run (capped_units limit) (texts (rest ps i)) s ≡ r → reader.run (capped_units limit) (texts (rest ps (i + n))) to ≡ r
+leads_on limit ps i n s to r h e =
+    sym (h.leads ∙ ap (λ (ts : Tokens). reader.run (capped_units limit) ts to) (drop-map placed_view n (rest ps i) ∙ ap texts (drop-drop n i ps))) ∙ e
+
+module _ (limit : ℕ) (ps : List Placed) (i n : ℕ) (s to : State) (turned : LeadsTo limit (texts (rest ps i)) s to n) where
+  pub turn_within : i ≤ length ps → i + n ≤ length ps
+  turn_within le = omega (arith, le, turned.within, length-map (rest ps i) placed_view, length-drop i ps)
+
+  pub turn_closer : i < length ps → length ps - (i + n) < length ps - i
+  turn_closer lt = omega (arith, lt, turned.some)
+
+-- the slice from i on has all that is left
+pub turned_rest : (limit : ℕ) (ps : List Placed) (i : ℕ) (s : State) (t t' : Turn) → t ≡ t' → Turned limit (texts (take (length ps - i) (drop i ps))) s t → Turned limit (texts (rest ps i)) s t'
+turned_rest limit ps i s t t' e h =
+    subst (λ (l : List Placed). Turned limit (texts l) s t') (take_all (length ps - i) (drop i ps) (omega (arith, length-drop i ps))) (subst (Turned limit (texts (take (length ps - i) (drop i ps))) s) e h)

@@ -1,8 +1,16 @@
 -- What the code's answers about the terminals of a file stand for.
-use Rattle.std.specs.Prelude.{Option, Some, None}
-use Rattle.jd_jtrees.specs.CappedUnits.{Dropped, CappedClasses}
+use Rattle.std.specs.Prelude.{◌≡◌, ◌<◌, ◌≤◌, ℕ, length, drop, Option, Some, None}
+use Rattle.jd_jgrammar.specs.Tokens.{Tokens}
+use Rattle.jd_jgrammar.specs.UnitReader as reader
+use Rattle.jd_jtrees.specs.CappedUnits.{Dropped, CappedClasses, capped_units}
 use Rattle.jd_jmembers.specs.Views.{classes_view}
-use Rattle.jd_jfile.specs.Views.{State, file_view}
+use Rattle.jd_jbody.specs.Views as bodies
+use Rattle.jd_jbody.specs.Views.{body_view}
+use Rattle.jd_jfile.specs.Views.{State, RoutineClosed, file_view}
+use Rattle.jd_jparse.specs.declared.turns.BodyTurn.{BodyTurn}
+use Rattle.jd_jparse.specs.declared.turns.BodyTurn.TheVariants as body_turns
+use Rattle.jd_jparse.specs.declared.turns.Turn.{Turn}
+use Rattle.jd_jparse.specs.declared.turns.Turn.TheVariants as turns
 use Rattle.jd_jparse.specs.declared.run.Reached.{Reached}
 use Rattle.jd_jparse.specs.declared.run.Reached.TheVariants as runs
 use Rattle.jd_jparse.specs.declared.run.FileRead.{FileRead}
@@ -15,3 +23,23 @@ reached (runs.Stops at) = None
 abbrev pub file_of : FileRead → Option (Dropped × CappedClasses)
 file_of (files.Whole cs high) = Some (tt, classes_view cs)
 file_of (files.Stops at) = None
+
+-- reading on from the state leads where reading on from the other leads behind so many terminals, of which there is one at least
+pub record LeadsTo (limit : ℕ) (ts : Tokens) (from to : State) (n : ℕ) : Type 0 where
+  pub some : 0 < n
+  pub within : n ≤ length ts
+  pub leads : reader.run (capped_units limit) ts from ≡ reader.run (capped_units limit) (drop n ts) to
+
+-- how far the terminals are read from the state on
+abbrev pub Turned : ℕ → Tokens → State → Turn → Type 0
+Turned limit ts s (turns.Goes f n high) = LeadsTo limit ts s (file_view f) n
+Turned limit ts s (turns.Ends f high) = reader.run (capped_units limit) ts s ≡ Some (file_view f)
+Turned limit ts s (turns.Stops at) = reader.run (capped_units limit) ts s ≡ None
+
+-- how far they are read inside the body of whichever routine
+abbrev pub BodyTurned : ℕ → Tokens → bodies.State → BodyTurn → Type 0
+BodyTurned limit ts s (body_turns.Whole r n at high) =
+    (c : RoutineClosed) → LeadsTo limit ts (reader.InBody c tt s) (reader.body_goes_on (capped_units limit) c tt (body_view r)) n
+BodyTurned limit ts s (body_turns.Inside r high) =
+    (c : RoutineClosed) → reader.run (capped_units limit) ts (reader.InBody c tt s) ≡ Some (reader.InBody c tt (body_view r))
+BodyTurned limit ts s (body_turns.Stops at) = (c : RoutineClosed) → reader.run (capped_units limit) ts (reader.InBody c tt s) ≡ None

@@ -8,6 +8,7 @@ mod refusal;
 mod run;
 #[cfg(test)]
 mod tests;
+mod turns;
 
 pub use laws::one_answer;
 pub use parse::parse_unit;

@@ -11,7 +11,8 @@ fn is_high_expression(reading: &Reading) -> bool {
     }
 }
 
-fn is_high_body(reading: &BodyReading) -> bool {
+/// Whether what was read last in a body is higher than the limit.
+pub(crate) fn is_high_body(reading: &BodyReading) -> bool {
     match &reading.top {
         Top::InExpression(_, expression) => is_high_expression(expression),
         Top::Did(statement) => statement.tree.is_none(),
@@ -28,10 +29,10 @@ pub(crate) fn is_high(reading: &FileReading) -> bool {
     }
 }
 
-/// The first place where something is too high, as far as it is known.
-pub(crate) fn first_high(known: Option<u32>, reading: &FileReading, at: u32) -> Option<u32> {
+/// The first place where something is too high, as far as it is known, behind what was read last.
+pub(crate) fn first_high(known: Option<u32>, is_high: bool, at: u32) -> Option<u32> {
     match known {
         Some(at) => Some(at),
-        None => { if is_high(reading) { Some(at) } else { None } }
+        None => { if is_high { Some(at) } else { None } }
     }
 }

@@ -6,9 +6,9 @@ ghost use Rattle.jd_jtrees.specs.CappedUnits.{capped_units};
 ghost use Rattle.jd_jtokens.specs.Placed.{placed_view};
 ghost use Rattle.jd_jparse.specs.Runs.{file_of, reached};
 
-use crate::places::first_high;
+use crate::turns::{Turn, read_on};
 use jd_base::NoMemory;
-use jd_jfile::{FileReading, finish, start, step};
+use jd_jfile::{FileReading, finish, start};
 use jd_jmembers::Classes;
 use jd_jtokens::Placed;
 use std::alloc::Global;
@@ -37,12 +37,17 @@ fn run(alloc: Global, limit: u16, placed: &[Placed<'_>]) -> Result<Reached, NoMe
 {
     let mut reading = start();
     let mut high = None;
-    for one in placed {
-        let Some(next) = step(alloc, limit, reading, &one.terminal, one.at)? else {
-            return Ok(Reached::Stops(one.at));
-        };
-        high = first_high(high, &next, one.at);
-        reading = next;
+    let mut number = 0;
+    while number < placed.len() {
+        match read_on(alloc, limit, reading, high, &placed[number..])? {
+            Turn::Goes(next, more, known) => {
+                reading = next;
+                number += more;
+                high = known;
+            }
+            Turn::Ends(last, known) => return Ok(Reached::Whole(last, known)),
+            Turn::Stops(at) => return Ok(Reached::Stops(at)),
+        }
     }
     Ok(Reached::Whole(reading, high))
 }

@@ -1,0 +1,108 @@
+//! The terminals of a body, and of what stands around bodies, read as far as one turn goes.
+
+ghost use Rattle.std.specs.Prelude.{◌<◌, length, IfOk, map};
+ghost use Rattle.jd_jtokens.specs.Placed.{placed_view};
+ghost use Rattle.jd_jbody.specs.Views.{body_view};
+ghost use Rattle.jd_jfile.specs.Views.{file_view};
+ghost use Rattle.jd_jparse.specs.Runs.{BodyTurned, Turned};
+
+use crate::places::{first_high, is_high, is_high_body};
+use jd_base::NoMemory;
+use jd_jbody::{BodyReading, is_whole, step as step_body};
+use jd_jfile::{Closed, FileReading, body_goes_on, step};
+use jd_jtokens::Placed;
+use std::alloc::Global;
+
+/// How far the terminals of a body are read.
+#[derive(Drop)]
+pub enum BodyTurn {
+    /// To the end of the body, with the number of terminals up to there, the offset of the last, and the first place
+    /// where something is too high.
+    Whole(BodyReading, usize, u32, Option<u32>),
+    /// To the end of the terminals, inside the body.
+    Inside(BodyReading, Option<u32>),
+    /// Up to a token that no body has there.
+    Stops(u32),
+}
+
+/// How far the terminals are read.
+#[derive(Drop)]
+pub enum Turn {
+    /// Up to a state, with the number of terminals before it, and the first place where something is too high.
+    Goes(FileReading, usize, Option<u32>),
+    /// To their end.
+    Ends(FileReading, Option<u32>),
+    /// Up to a token that no file has there.
+    Stops(u32),
+}
+
+// A body, up to its end or that of the terminals.
+fn read_body(
+    alloc: Global,
+    limit: u16,
+    reading: BodyReading,
+    high: Option<u32>,
+    placed: &[Placed<'_>],
+) -> Result<BodyTurn, NoMemory>
+    ensures { IfOk result (λ t. BodyTurned limit (map placed_view placed.now) (body_view reading) t) }
+{
+    let mut body = reading;
+    let mut high = high;
+    for (number, one) in placed.iter().enumerate() {
+        let Some(next) = step_body(alloc, limit, body, &one.terminal, one.at)? else {
+            return Ok(BodyTurn::Stops(one.at));
+        };
+        if is_whole(limit, &next) {
+            return Ok(BodyTurn::Whole(next, number + 1, one.at, high));
+        }
+        high = first_high(high, is_high_body(&next), one.at);
+        body = next;
+    }
+    Ok(BodyTurn::Inside(body, high))
+}
+
+// A body and the end of its routine.
+fn in_body(
+    alloc: Global,
+    limit: u16,
+    closed: Box<Closed>,
+    body: BodyReading,
+    high: Option<u32>,
+    placed: &[Placed<'_>],
+) -> Result<Turn, NoMemory>
+    ensures { IfOk result (λ t. Turned limit (map placed_view placed.now) (file_view (FileReading.InBody closed body)) t) }
+{
+    match read_body(alloc, limit, body, high, placed)? {
+        BodyTurn::Whole(whole, number, at, high) => {
+            let next = body_goes_on(alloc, limit, closed, whole)?;
+            let high = first_high(high, is_high(&next), at);
+            Ok(Turn::Goes(next, number, high))
+        }
+        BodyTurn::Inside(inside, high) => Ok(Turn::Ends(FileReading::InBody(closed, inside), high)),
+        BodyTurn::Stops(at) => Ok(Turn::Stops(at)),
+    }
+}
+
+/// Some terminals more, of which there is one at least: those of a body together, others one at a time.
+pub(crate) fn read_on(
+    alloc: Global,
+    limit: u16,
+    reading: FileReading,
+    high: Option<u32>,
+    placed: &[Placed<'_>],
+) -> Result<Turn, NoMemory>
+    requires { 0 < length placed.now }
+    ensures { IfOk result (λ t. Turned limit (map placed_view placed.now) (file_view reading) t) }
+{
+    match reading {
+        FileReading::InBody(closed, body) => in_body(alloc, limit, closed, body, high, placed),
+        other => {
+            let one = &placed[0];
+            let Some(next) = step(alloc, limit, other, &one.terminal, one.at)? else {
+                return Ok(Turn::Stops(one.at));
+            };
+            let high = first_high(high, is_high(&next), one.at);
+            Ok(Turn::Goes(next, 1, high))
+        }
+    }
+}
