@@ -5,3 +5,5 @@ pub mod Formulas
 pub mod FormulaSizes
 pub mod Occurs
 pub mod Shifts
+pub mod Substitutions
+pub mod Renamings

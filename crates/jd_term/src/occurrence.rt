@@ -12,13 +12,13 @@ use crate::term::{ConstId, Loc, Term};
 use jd_syntax::VarId;
 
 // `equals`, by its test.
-fn is_same(v: &VarId, w: &VarId) -> bool
+pub(crate) fn is_same(v: &VarId, w: &VarId) -> bool
     ensures { result ≡ same_name (var_view v.now) (var_view w.now) }
 {
     v.equals(w)
 }
 
-fn is_same_constant(c: &ConstId, d: &ConstId) -> bool
+pub(crate) fn is_same_constant(c: &ConstId, d: &ConstId) -> bool
     ensures { result ≡ same_name (const_view c.now) (const_view d.now) }
 {
     c.equals(d)
