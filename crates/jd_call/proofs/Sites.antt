@@ -24,7 +24,8 @@ use Rattle.jd_model.specs.ContractForms.{PlainCase}
 use Rattle.jd_model.specs.EntryExit.{AllHold, EntryAs, ExceptionalEnd, Framed, Moment, NormalEnd, ResultOf, assignable_at, interpretation_of, is_of, measure_at, normal_moment, state_of, thrown_moment, with_result}
 use Rattle.jd_model.specs.Occurrences.{AllApart, Other}
 use Rattle.jd_model.specs.Programs.{Body, BooleanType, IntType, ReferenceType, ValueType, type_sort}
-use Rattle.jd_model.specs.Renamings.{AllFirstOrder, Renaming, rename_all, rename_loc, rename_term}
+use Rattle.jd_model.specs.Renamings.{AllFirstOrder, rename_all}
+use Rattle.jd_term.specs.Renamings.{Renaming, rename_loc, rename_term}
 use Rattle.jd_model.specs.Runs.{with_values}
 use Rattle.jd_model.specs.SimpleExpressions.{SimpleOf, term_of}
 use Rattle.jd_model.specs.SpecialNames.{entry_heap, receiver, result_variable, thrown_variable}

@@ -26,7 +26,8 @@ use Rattle.jd_model.specs.KeptCases.{KeptBelow, KeptFrom, MeetsTo, Usable, measu
 use Rattle.jd_model.specs.Occurrences.{ContextIn, FormulaIn, NotIn}
 use Rattle.jd_model.specs.Outcomes.{IsOver, Outcome}
 use Rattle.jd_model.specs.Programs.{Body, BooleanType, IntType, ReferenceType, ValueType, type_sort}
-use Rattle.jd_model.specs.Renamings.{rename_all, rename_term}
+use Rattle.jd_model.specs.Renamings.{rename_all}
+use Rattle.jd_term.specs.Renamings.{rename_term}
 use Rattle.jd_model.specs.Runs.{dispatch, eval, exec_at, raise, run_body, runner, with_one, with_values}
 use Rattle.jd_model.specs.SimpleExpressions.{term_of}
 use Rattle.jd_model.specs.SpecialNames.{entry_measure}

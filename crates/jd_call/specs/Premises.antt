@@ -7,7 +7,8 @@ use Rattle.jd_model.specs.Conjunctions.{conjunction}
 use Rattle.jd_model.specs.Contexts.{Context, fill, one}
 use Rattle.jd_model.specs.ContractForms.{PlainCase}
 use Rattle.jd_model.specs.NumberedNames.{numbered_constant, numbered_variable}
-use Rattle.jd_model.specs.Renamings.{Renaming, look, rename_all, rename_loc, rename_term}
+use Rattle.jd_model.specs.Renamings.{look, rename_all}
+use Rattle.jd_term.specs.Renamings.{Renaming, rename_loc, rename_term}
 use Rattle.jd_model.specs.SimpleExpressions.{term_of}
 use Rattle.jd_model.specs.SpecialNames.{entry_heap, entry_measure, result_variable, thrown_variable}
 use Rattle.jd_model.specs.Tables.{constants_of_parameters, loosened}

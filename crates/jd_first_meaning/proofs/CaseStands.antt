@@ -16,7 +16,8 @@ use Rattle.jd_model.specs.Occurrences.{AllApart}
 use Rattle.jd_model.specs.Programs.{is_instance}
 use Rattle.jd_model.specs.Validity.{AllTrue}
 use Rattle.jd_model.specs.WellFormedHeaps.{in_int}
-use Rattle.jd_model.specs.Renamings.{FirstOrder, AllFirstOrder}
+use Rattle.jd_model.specs.Renamings.{AllFirstOrder}
+use Rattle.jd_term.specs.Renamings.{FirstOrder}
 use Rattle.jd_model.specs.Cases.{Contract, SpecifiedProgram}
 use Rattle.jd_model.specs.EntryExit.{Moment, AllHold, AreOf, EntryAs, NormalEnd, ExceptionalEnd, entry_moment, normal_moment, thrown_moment, is_of}
 use Rattle.jd_model.specs.Tables.{SortsOf, loosened, members, constants_of_parameters, CaseStandsFor}

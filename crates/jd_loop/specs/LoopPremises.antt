@@ -12,7 +12,7 @@ use Rattle.jd_term.specs.Formulas.{Pairs, PlainFormula, TrueFormula, And, Or, Im
 use Rattle.jd_model.specs.Contexts.{Context, fill, chain, one}
 use Rattle.jd_model.specs.Conjunctions.{conjunction, created_at, frame}
 use Rattle.jd_model.specs.Occurrences.{member}
-use Rattle.jd_model.specs.Renamings.{Renaming, rename_loc}
+use Rattle.jd_term.specs.Renamings.{Renaming, rename_loc}
 use Rattle.jd_sequent.specs.Obligations.{PlainLoop}
 use Rattle.jd_loop.specs.LoopNames.{RenewedVariable, LoopNames, renewed_variables}
 

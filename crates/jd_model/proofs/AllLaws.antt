@@ -1,10 +1,10 @@
 -- The laws.
-use Rattle.std.proofs.Common.{◌≡◌, true, List, [], ◌∷◌, ◌+◌, suc, ap, arith}
+use Rattle.std.proofs.Common.{◌≡◌, true, List, [], ◌∷◌, ◌+◌, ◌∙◌, suc, ap, arith}
 use Rattle.jd_term.specs.Occurs.{occurs_var_in, occurs_const_in, var_in_term, const_in_term}
 use Rattle.jd_heap.specs.Values.{Value}
-use Rattle.jd_model.specs.TermValues.{bound_at, updated}
-use Rattle.jd_model.specs.Truth.{InvTruth}
-use Rattle.jd_model.specs.Laws.{AreStable, MayBeTaken, AreCoincident, AreReplaceable, AreSubstituted, AreRenamed, FocusDecides}
+use Rattle.jd_model.specs.TermValues.{bound_at, updated, value}
+use Rattle.jd_model.specs.Truth.{InvTruth, truth}
+use Rattle.jd_model.specs.Laws.{AreStable, MayBeTaken, AreCoincident, AreReplaceable, AreSubstituted, AreSubstitutedBySort, AreRenamed, FocusDecides}
 use Rattle.jd_model.proofs.Stable.{stable_Truth}
 use Rattle.jd_model.proofs.StableCases.{stable_valid, stable_entry, stable_normal_end, stable_exceptional_end, stable_ends, stable_kept_to, stable_kept, stable_usable}
 use Rattle.jd_model.proofs.Given.{taken_as_given, one_taken, branch_taken}
@@ -13,6 +13,7 @@ use Rattle.jd_model.proofs.Occurrences.{term_in, formula_in}
 use Rattle.jd_model.proofs.Replacement.{plug_same, truth_path}
 use Rattle.jd_model.proofs.Holes.{term_same, atom_same}
 use Rattle.jd_model.proofs.Substitution.{ReachesTo, subst_value, subst_truth}
+use Rattle.jd_model.proofs.BySort.{one_formula, one_term}
 use Rattle.jd_model.proofs.Shift.{shift_truth}
 use Rattle.jd_model.proofs.Renaming.{rename_value_all, rename_within_all, rename_truth_all}
 use Rattle.jd_model.proofs.Contexts.{fill_alike}
@@ -60,6 +61,12 @@ are_substituted = record {
   shifted = λ g d i s b v a. both_ways (shift_truth g d (InvTruth g d) i (v ∷ b) b 1 (one_further v b) a [] s);
   of_terms = λ i s b t a. subst_value i s b t a [];
   of_formulas = λ g d i s b t a steady. both_ways (subst_truth g d (InvTruth g d) i b t a [] steady s);
+}
+
+pub are_substituted_by_sort : AreSubstitutedBySort
+are_substituted_by_sort = record {
+  of_terms = λ i s b t a other agree. ap (value i s b) (one_term t other a 0 agree) ∙ subst_value i s b t a [];
+  of_formulas = λ g d i s b t a other agree steady. both_ways (ap (truth g d (InvTruth g d) i s b) (one_formula t other a 0 agree) ∙ subst_truth g d (InvTruth g d) i b t a [] steady s);
 }
 
 pub are_renamed : AreRenamed

@@ -11,6 +11,7 @@ pub mod Around
 pub mod Modalities
 pub mod Indices
 pub mod Substitution
+pub mod BySort
 pub mod Shift
 pub mod Replacement
 pub mod Holes

@@ -7,7 +7,8 @@ use Rattle.jd_heap.specs.References.{Reference, Location, Index, location}
 use Rattle.jd_heap.specs.Values.{Value, IntValue, HeapValue, FieldValue, as_int, as_ref, as_heap, as_field, IsOf, select_at, store_value}
 use Rattle.jd_model.specs.Occurrences.{TermIn, LocIn, FormulaIn, Always}
 use Rattle.jd_model.specs.Programs.{is_instance, is_exactly}
-use Rattle.jd_model.specs.Renamings.{Renaming, rename_term, rename_loc, rename, FirstOrder, AllFirstOrder, rename_all}
+use Rattle.jd_model.specs.Renamings.{AllFirstOrder, rename_all}
+use Rattle.jd_term.specs.Renamings.{Renaming, rename_term, rename_loc, rename, FirstOrder}
 use Rattle.jd_model.specs.Runs.{wrap32}
 use Rattle.jd_model.specs.States.{State, read}
 use Rattle.jd_model.specs.TermValues.{value, within, sum_range, arithmetic, is_index, in_range}

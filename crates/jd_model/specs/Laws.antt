@@ -1,9 +1,11 @@
 -- The laws of these definitions, as statements.
-use Rattle.std.specs.Prelude.{◌≡◌, ◌↔◌, ◌≤◌, ℕ, ℤ, true, List, ◌∷◌}
+use Rattle.std.specs.Prelude.{◌≡◌, ◌≢◌, ◌↔◌, ◌≤◌, ℕ, ℤ, true, List, ◌∷◌}
 use Rattle.jd_syntax.specs.Names.{Name}
 use Rattle.jd_syntax.specs.Codes.{PlainCode}
 use Rattle.jd_term.specs.declared.formula.Modality.{Modality}
-use Rattle.jd_term.specs.Terms.{PlainTerm, PlainLoc}
+use Rattle.jd_base.specs.declared.sort.Sort.TheVariants.{Heap as HeapSort}
+use Rattle.jd_term.specs.Substitutions.{SortsAgree, TermSortsAgree, formula_subst, term_subst}
+use Rattle.jd_term.specs.Terms.{PlainTerm, PlainLoc, sort_of_term}
 use Rattle.jd_term.specs.Formulas.{PlainFormula, Pairs, Updated, Modal}
 use Rattle.jd_term.specs.Shifts.{formula_shift}
 use Rattle.jd_term.specs.Occurs.{var_in_term, const_in_term, occurs_var_in, occurs_const_in}
@@ -26,7 +28,7 @@ use Rattle.jd_model.specs.Occurrences.{Always, CodeIn}
 use Rattle.jd_model.specs.Bodies.{NotHeap, AllAssignNoHeap, Grows, AtEnd}
 use Rattle.jd_model.specs.Holes.{Around, plug, TermHole, fill_term, AtomHole, fill_atom}
 use Rattle.jd_model.specs.Substitutions.{subst_term, subst_formula, Steady}
-use Rattle.jd_model.specs.Renamings.{Renaming, rename_term, rename_loc, rename, FirstOrder}
+use Rattle.jd_term.specs.Renamings.{Renaming, rename_term, rename_loc, rename, FirstOrder}
 
 -- more depth of calls or turns of loops give the same outcome
 abbrev pub MoreGivesTheSame : Type 0
@@ -68,6 +70,11 @@ pub record AreSubstituted : Type 0 where
   pub shifted : (g : Setting) (d : ℕ) (i s : State) (b : List Value) (v : Value) (a : PlainFormula) → Truth g d i s (v ∷ b) (formula_shift 0 1 a) ↔ Truth g d i s b a
   pub of_terms : (i s : State) (b : List Value) (t a : PlainTerm) → value i s b (subst_term 0 t a) ≡ value i s (value i s b t ∷ b) a
   pub of_formulas : (g : Setting) (d : ℕ) (i s : State) (b : List Value) (t : PlainTerm) (a : PlainFormula) → Steady 0 t a → Truth g d i s b (subst_formula 0 t a) ↔ Truth g d i s (value i s b t ∷ b) a
+
+-- where the index has the sort of the term, and none of heaps, so it is with the substitution that `jd_term` computes
+pub record AreSubstitutedBySort : Type 0 where
+  pub of_terms : (i s : State) (b : List Value) (t a : PlainTerm) → sort_of_term t ≢ HeapSort → TermSortsAgree 0 (sort_of_term t) a → value i s b (term_subst 0 0 t a) ≡ value i s (value i s b t ∷ b) a
+  pub of_formulas : (g : Setting) (d : ℕ) (i s : State) (b : List Value) (t : PlainTerm) (a : PlainFormula) → sort_of_term t ≢ HeapSort → SortsAgree 0 (sort_of_term t) a → Steady 0 t a → Truth g d i s b (formula_subst 0 0 t a) ↔ Truth g d i s (value i s b t ∷ b) a
 
 -- a renamed tree has the value or truth of the old one where each replaced name has its new term's value
 pub record AreRenamed : Type 0 where

@@ -1,5 +1,5 @@
 ghost use Rattle.jd_model.specs.ResolvedBodies.{ResolvedBodiesAssignNoHeap, ResolvedBodiesEnd};
-ghost use Rattle.jd_model.specs.Laws.{MoreGivesTheSame, AreStable, MayBeTaken, AreCoincident, AreReplaceable, AreSubstituted, AreRenamed, FocusDecides, CreatedStays};
+ghost use Rattle.jd_model.specs.Laws.{MoreGivesTheSame, AreStable, MayBeTaken, AreCoincident, AreReplaceable, AreSubstituted, AreSubstitutedBySort, AreRenamed, FocusDecides, CreatedStays};
 ghost use Rattle.jd_model.specs.UpdatePlaces.{UpdatePlacesArePlaces};
 
 /// More depth of calls or turns of loops give the same outcome of a run that is over.
@@ -30,6 +30,11 @@ pub fn are_replaceable()
 /// Shifting and substitution keep values and truth (the substitution lemma).
 pub fn are_substituted()
     ensures { AreSubstituted }
+{}
+
+/// So does the substitution that `jd_term` computes, where the index has the sort of the term and none of heaps.
+pub fn are_substituted_by_sort()
+    ensures { AreSubstitutedBySort }
 {}
 
 /// Renaming keeps values and truth.
