@@ -1,12 +1,13 @@
 -- Bits of rows, as the words that hold them are read and written.
-use Rattle.std.proofs.Common.{◌≡◌, refl, max, zero, suc, ℕ, ◌+◌, ◌*◌, ◌/◌, ◌%◌, ◌^◌, ◌<◌, ◌≤◌, ◌&&◌, ◌||◌, ◌==◌, Bool, true, false, List, length, get_or, nat_eq, slice_set, bit_and, bit_or, sym, ap, ◌∙◌, inl, inr, arith, w64, eq-eqb, eqb-true, replicate, ltb}
+use Rattle.std.proofs.Common.{◌≡◌, refl, max, zero, suc, ℕ, ◌+◌, ◌-◌, ◌*◌, ◌/◌, ◌%◌, ◌^◌, ◌<◌, ◌≤◌, ◌&&◌, ◌||◌, ◌==◌, Bool, true, false, List, length, get_or, nat_eq, slice_set, bit_and, bit_or, sym, ap, ◌∙◌, inl, inr, arith, w64, eq-eqb, eqb-true, replicate, ltb}
 use Rattle.std.proofs.lemmas.Bool.{cases_eq, cases_lt, and_parts, and_from, and_left, or_right, ne_eqb, false_from_ne_true, both_ways, ltb-true}
 use Rattle.std.proofs.lemmas.List.{get_or-set_other, get_or-replicate}
 use Rattle.std.proofs.lemmas.Grind.{get_or-set_at}
-use Rattle.std.proofs.lemmas.Nat.{same_from_place, row_fits, mul-le}
-use Rattle.std.proofs.lemmas.Nat.Bits.{shr_and_one, bit_at_or, bit_at-lt, bit_at-zero, bit_at_set_same, bit_at_set_other}
-use Rattle.std.specs.Int.{bit_at}
+use Rattle.std.proofs.lemmas.Nat.{same_from_place, row_fits, mul-le, shr-shr, shr_le}
+use Rattle.std.proofs.lemmas.Nat.Bits.{shr_and_one, bit_at_or, bit_at-lt, bit_at-zero, bit_at_above, bit_at-trailing_zeros, bit_at_set_same, bit_at_set_other}
+use Rattle.std.specs.Int.{bit_at, trailing_zeros}
 use Rattle.jd_reach.specs.Rows.{row_bit, within}
+use Rattle.jd_reach.proofs.Ways.{edge_of, bit_of}
 
 pub or_nothing : (x y : Bool) → y ≡ false → (x || y) ≡ x
 or_nothing true y e = refl
@@ -124,7 +125,7 @@ module _ (width into from : ℕ) (old : List ℕ) where
             ∙ sym (or_nothing (row_bit width old a b) _ (and_left (a == into) (row_bit width old from b) (ne_eqb a into other)))
       ]
 
-bit_of_zeros : (width n a b : ℕ) → a * width + b / 64 < n → row_bit width (replicate n 0) a b ≡ false
+pub bit_of_zeros : (width n a b : ℕ) → a * width + b / 64 < n → row_bit width (replicate n 0) a b ≡ false
 unfolding row_bit
 bit_of_zeros width n a b inside =
     ap (λ x. bit_at x (b % 64) == 1) (get_or-replicate n (a * width + b / 64) 0 0 inside) ∙ ap (λ x. x == 1) (bit_at-zero (b % 64))
@@ -139,3 +140,65 @@ no_edge nodes width words zeros covered a b =
     let bit : b < nodes = ltb-true b nodes below.1 in
     let fits : a * width + width ≤ nodes * width = row_fits a width nodes width row (omega arith) in
     both_ways (row_bit width words a b) (ap (λ x. row_bit width x a b) zeros ∙ bit_of_zeros width (nodes * width) a b (omega arith)) parts.1)
+
+-- the bits of a word that is shifted
+shifted : (word from i : ℕ) → bit_at (word / 2 ^ from) i ≡ bit_at word (from + i)
+shifted word from i = ap (λ x. x % 2) (shr-shr word from i)
+
+shifted_back : (word from b : ℕ) → from ≤ b → bit_at word b ≡ bit_at (word / 2 ^ from) (b - from)
+shifted_back word from b le = let e : b ≡ from + (b - from) = omega arith in ap (bit_at word) e ∙ sym (shifted word from (b - from))
+
+pub none_from : (word from b : ℕ) → word / 2 ^ from ≡ 0 → from ≤ b → bit_at word b ≡ 1 → ⊥
+none_from word from b zeros le set =
+    let e : bit_at word b ≡ 0 = shifted_back word from b le ∙ ap (λ x. bit_at x (b - from)) zeros ∙ bit_at-zero (b - from) in
+    omega (arith, e, set)
+
+module _ (word from : ℕ) (fits : word < 2 ^ 64) (more : 0 < word / 2 ^ from) where
+  abbrev zeros : ℕ
+  zeros = trailing_zeros w64 (word / 2 ^ from)
+
+  rest_fits : word / 2 ^ from < 2 ^ 64
+  rest_fits = omega (arith, shr_le word from)
+
+  pub lowest_set : (from + zeros < 64) × (bit_at word (from + zeros) ≡ 1)
+  lowest_set =
+      let low = bit_at-trailing_zeros w64 (word / 2 ^ from) more rest_fits in
+      let set : bit_at word (from + zeros) ≡ 1 = sym (shifted word from zeros) ∙ low.1 in (
+        elim (cases_lt (from + zeros) 64) [
+          | inl within ↦ within
+          | inr beyond ↦ absurd (let e = bit_at_above word 64 (from + zeros) fits beyond in omega (arith, e, set))
+        ],
+        set,
+      )
+
+  pub lowest_first : (b : ℕ) → from ≤ b → bit_at word b ≡ 1 → from + zeros ≤ b
+  lowest_first b le set =
+      let low = bit_at-trailing_zeros w64 (word / 2 ^ from) more rest_fits in
+      elim (cases_lt b (from + zeros)) [
+        | inl below ↦ absurd (let e = low.2 (b - from) (omega arith) in omega (arith, e, shifted_back word from b le, set))
+        | inr above ↦ above
+      ]
+
+-- an edge, by the word that its bit is in
+module _ (nodes width row bit : ℕ) (words : List ℕ) where
+  abbrev this_word : ℕ
+  this_word = get_or words (row * width + bit / 64) 0
+
+  pub edge_in_word : row < nodes → (place : ℕ) → place < 64 → bit_at this_word place ≡ 1 → bit - bit % 64 + place < nodes
+      → within nodes (row_bit width words) row (bit - bit % 64 + place) ≡ true
+  unfolding row_bit
+  edge_in_word below place inside set found_below =
+      let found : ℕ = bit - bit % 64 + place in
+      let word_at : found / 64 ≡ bit / 64 = omega arith in
+      let place_at : found % 64 ≡ place = omega arith in
+      edge_of nodes (row_bit width words) row found below found_below
+      (eq-eqb (bit_at (get_or words (row * width + found / 64) 0) (found % 64)) 1
+      (ap (λ k. bit_at (get_or words (row * width + k) 0) (found % 64)) word_at ∙ ap (bit_at this_word) place_at ∙ set))
+
+  pub word_of_edge : (b : ℕ) → bit ≤ b → b < bit - bit % 64 + 64 → within nodes (row_bit width words) row b ≡ true
+      → (bit % 64 ≤ b % 64) × (b ≡ bit - bit % 64 + b % 64) × (bit_at this_word (b % 64) ≡ 1)
+  unfolding row_bit
+  word_of_edge b le below edge =
+      let word_at : b / 64 ≡ bit / 64 = omega arith in
+      let set = eqb-true (bit_at (get_or words (row * width + b / 64) 0) (b % 64)) 1 (bit_of nodes (row_bit width words) row b edge) in
+      (omega arith, omega arith, ap (λ k. bit_at (get_or words (row * width + k) 0) (b % 64)) (sym word_at) ∙ set)

@@ -1,3 +1,6 @@
 mod Bits
-mod Rounds
-mod Steps
+mod Filling
+mod Opening
+mod Searching
+mod Stacks
+mod Ways

@@ -1,10 +1,11 @@
-ghost use Rattle.std.specs.Prelude.{◌≡◌, ℕ, ◌<◌, ◌≤◌, ◌&&◌, ◌||◌, ◌==◌, false, IfOk};
+ghost use Rattle.std.specs.Prelude.{◌≡◌, ℕ, ◌<◌, ◌≤◌, ◌&&◌, ◌||◌, ◌==◌, false, IfOk, OnOk};
 ghost use Rattle.std.specs.Bool.{Decides};
 ghost use Rattle.jd_reach.specs.Graphs.{edge, node_count};
 ghost use Rattle.jd_reach.specs.Paths.{ReachesBy};
 
 use crate::graph::Graph;
-use crate::rows::{close_rows, is_set, set};
+use crate::rows::{is_set, set};
+use crate::search::closed_rows;
 use jd_base::NoMemory;
 use std::alloc::Global;
 
@@ -52,12 +53,17 @@ impl Graph {
 
     /// Adds an edge from each node to each node that it reaches, itself among them: the graph becomes
     /// its reflexive transitive closure.
+    ///
+    /// # Errors
+    ///
+    /// `NoMemory` if memory runs out.
     #[tactic(auto, unfolding(crate::specs::Graphs::edge))]
-    pub fn close(&mut self)
+    pub fn close(&mut self, alloc: Global) -> Result<(), NoMemory>
         ensures count { node_count self.new ≡ node_count self.old }
-        ensures closed { (a b : ℕ) → a < node_count self.old → b < node_count self.old
-            → Decides (edge self.new a b) (ReachesBy (edge self.old) a b) }
+        ensures closed { OnOk result ((a b : ℕ) → a < node_count self.old → b < node_count self.old
+            → Decides (edge self.new a b) (ReachesBy (edge self.old) a b)) }
     {
-        close_rows(&mut self.words, self.width, self.nodes);
+        self.words = closed_rows(alloc, &self.words, self.width, self.nodes)?;
+        Ok(())
     }
 }

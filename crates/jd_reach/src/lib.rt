@@ -3,7 +3,9 @@
 
 mod edges;
 mod graph;
+mod group;
 mod rows;
+mod search;
 #[cfg(test)]
 mod tests;
 

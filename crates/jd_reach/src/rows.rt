@@ -1,8 +1,7 @@
 //! Rows of bits in a slice of words, one row after another, each of `width` words.
 
-ghost use Rattle.std.specs.Prelude.{◌≡◌, ℕ, ◌+◌, ◌*◌, ◌<◌, ◌≤◌, ◌&&◌, ◌||◌, ◌==◌, length};
-ghost use Rattle.std.specs.Bool.{Decides};
-ghost use Rattle.jd_reach.specs.Paths.{ReachesBy};
+ghost use Rattle.std.specs.Prelude.{◌≡◌, ℕ, ◌+◌, ◌*◌, ◌<◌, ◌≤◌, ◌&&◌, ◌||◌, ◌==◌, true, length, IfSome, IsSomeAnd};
+ghost use Rattle.std.specs.Int.{bit_at};
 ghost use Rattle.jd_reach.specs.Rows.{row_bit, within};
 
 // Whether a bit of a row is set.
@@ -25,7 +24,7 @@ pub(crate) fn set(words: &mut [u64], width: usize, row: usize, bit: usize)
 }
 
 // Adds what the row `from` has to the row `into`.
-fn join(words: &mut [u64], width: usize, into: usize, from: usize)
+pub(crate) fn join(words: &mut [u64], width: usize, into: usize, from: usize)
     requires into { into * width + width ≤ length words.old }
     requires from { from * width + width ≤ length words.old }
     ensures { (a b : ℕ) → b < 64 * width
@@ -36,44 +35,44 @@ fn join(words: &mut [u64], width: usize, into: usize, from: usize)
     }
 }
 
-// Adds the ways that lead through the node `middle`.
-fn through(words: &mut [u64], width: usize, nodes: usize, middle: usize)
-    requires rows { nodes * width ≤ length words.old }
-    requires bits { nodes ≤ 64 * width }
-    requires middle { middle < nodes }
-    ensures { (a b : ℕ) → a < nodes → b < 64 * width
-        → row_bit width words.new a b
-        ≡ (row_bit width words.old a b || (row_bit width words.old a middle && row_bit width words.old middle b)) }
+// The place of the lowest bit of a word, from a place on, that is set.
+fn lowest_from(word: u64, from: usize) -> Option<usize>
+    requires { from < 64 }
+    ensures found { IfSome result (λ k. (from ≤ k) × (k < 64) × (bit_at word k ≡ 1)) }
+    ensures lowest { (b : ℕ) → from ≤ b → bit_at word b ≡ 1 → IsSomeAnd result (λ k. k ≤ b) }
 {
-    for row in 0..nodes {
-        if is_set(words, width, row, middle) {
-            join(words, width, row, middle);
+    let rest = word >> from;
+    if rest == 0 {
+        return None;
+    }
+    Some(from + rest.trailing_zeros() as usize)
+}
+
+// The first node, from one on, that a node has an edge to.
+pub(crate) fn next_edge(
+    words: &[u64],
+    width: usize,
+    nodes: usize,
+    row: usize,
+    from: usize,
+) -> Option<usize>
+    requires rows { nodes * width ≤ length words.now }
+    requires bits { nodes ≤ 64 * width }
+    requires few { nodes ≤ 65536 }
+    requires row { row < nodes }
+    ensures found { IfSome result (λ v. (from ≤ v) × (v < nodes) × (within nodes (row_bit width words.now) row v ≡ true)) }
+    ensures first { (b : ℕ) → from ≤ b → within nodes (row_bit width words.now) row b ≡ true → IsSomeAnd result (λ v. v ≤ b) }
+{
+    let mut bit = from;
+    while bit < nodes {
+        if let Some(place) = lowest_from(words[row * width + bit / 64], bit % 64) {
+            let found = bit - bit % 64 + place;
+            if found < nodes {
+                return Some(found);
+            }
+            return None;
         }
+        bit = bit - bit % 64 + 64;
     }
-}
-
-// Adds an edge from each node to itself.
-fn add_loops(words: &mut [u64], width: usize, nodes: usize)
-    requires rows { nodes * width ≤ length words.old }
-    requires bits { nodes ≤ 64 * width }
-    ensures { (a b : ℕ) → a < nodes → b < 64 * width
-        → row_bit width words.new a b ≡ (row_bit width words.old a b || (a == b)) }
-{
-    for row in 0..nodes {
-        set(words, width, row, row);
-    }
-}
-
-// Warshall's algorithm: after so many rounds there is an edge wherever a way leads whose inner nodes
-// are below that number.
-pub(crate) fn close_rows(words: &mut [u64], width: usize, nodes: usize)
-    requires rows { nodes * width ≤ length words.old }
-    requires bits { nodes ≤ 64 * width }
-    ensures { (a b : ℕ) → a < nodes → b < nodes
-        → Decides (row_bit width words.new a b) (ReachesBy (within nodes (row_bit width words.old)) a b) }
-{
-    add_loops(words, width, nodes);
-    for middle in 0..nodes {
-        through(words, width, nodes, middle);
-    }
+    None
 }

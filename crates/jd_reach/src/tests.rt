@@ -93,7 +93,7 @@ fn closes_graphs(rt: HostRuntime) -> Result<(), Fail> {
     ] {
         let mut graph = graph_of(rt.alloc(), nodes, edges)?;
         assert!(rt; edges_are(&graph, nodes, edges, false), "{edges:?}");
-        graph.close();
+        graph.close(rt.alloc())?;
         assert!(rt; edges_are(&graph, nodes, ways, true), "{edges:?}, closed");
     }
     Ok(())
