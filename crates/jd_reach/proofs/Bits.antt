@@ -1,11 +1,11 @@
 -- Bits of rows, as the words that hold them are read and written.
-use Rattle.std.proofs.Common.{◌≡◌, refl, max, zero, suc, ℕ, ◌+◌, ◌-◌, ◌*◌, ◌/◌, ◌%◌, ◌^◌, ◌<◌, ◌≤◌, ◌&&◌, ◌||◌, ◌==◌, Bool, true, false, List, length, get_or, nat_eq, slice_set, bit_and, bit_or, sym, ap, ◌∙◌, inl, inr, arith, w64, eq-eqb, eqb-true, replicate, ltb}
+use Rattle.std.proofs.Common.{◌≡◌, refl, max, min, zero, suc, ℕ, ◌+◌, ◌-◌, ◌*◌, ◌/◌, ◌%◌, ◌^◌, ◌<◌, ◌≤◌, ◌&&◌, ◌||◌, ◌==◌, Bool, true, false, List, length, get_or, nat_eq, slice_set, bit_and, bit_or, sym, ap, ◌∙◌, inl, inr, arith, w64, eq-eqb, eqb-true, replicate, ltb}
 use Rattle.std.proofs.lemmas.Bool.{cases_eq, cases_lt, and_parts, and_from, and_left, or_right, ne_eqb, false_from_ne_true, both_ways, ltb-true}
 use Rattle.std.proofs.lemmas.List.{get_or-set_other, get_or-replicate}
 use Rattle.std.proofs.lemmas.Grind.{get_or-set_at}
 use Rattle.std.proofs.lemmas.Nat.{same_from_place, row_fits, mul-le, shr-shr, shr_le}
-use Rattle.std.proofs.lemmas.Nat.Bits.{shr_and_one, bit_at_or, bit_at-lt, bit_at-zero, bit_at_above, bit_at-trailing_zeros, bit_at_set_same, bit_at_set_other}
-use Rattle.std.specs.Int.{bit_at, trailing_zeros}
+use Rattle.std.proofs.lemmas.Nat.Bits.{shr_and_one, bit_at_or, bit_at-lt, bit_at-zero, bit_at_above, bit_at_and, bit_at_not, bit_at-trailing_zeros, bit_at_set_same, bit_at_set_other}
+use Rattle.std.specs.Int.{bit_at, bit_not, trailing_zeros}
 use Rattle.jd_reach.specs.Rows.{row_bit, within}
 use Rattle.jd_reach.proofs.Ways.{edge_of, bit_of}
 
@@ -202,3 +202,53 @@ module _ (nodes width row bit : ℕ) (words : List ℕ) where
       let word_at : b / 64 ≡ bit / 64 = omega arith in
       let set = eqb-true (bit_at (get_or words (row * width + b / 64) 0) (b % 64)) 1 (bit_of nodes (row_bit width words) row b edge) in
       (omega arith, omega arith, ap (λ k. bit_at (get_or words (row * width + k) 0) (b % 64)) (sym word_at) ∙ set)
+
+-- the bits of a word that another lacks
+module _ (word known place : ℕ) (fits : known < 2 ^ 64) (inside : place < 64) where
+  lacking : bit_at (bit_and word (bit_not w64 known)) place ≡ min (bit_at word place) (1 - bit_at known place)
+  lacking = bit_at_and word (bit_not w64 known) place ∙ ap (min (bit_at word place)) (bit_at_not w64 known place fits inside)
+
+  pub lacks : bit_at (bit_and word (bit_not w64 known)) place ≡ 1 → (bit_at word place ≡ 1) × (bit_at known place ≡ 0)
+  lacks set =
+      let one = bit_at-lt word place in
+      (omega (arith, lacking, set, one), omega (arith, lacking, set, one))
+
+  pub lacks_from : bit_at word place ≡ 1 → bit_at known place ≡ 0 → bit_at (bit_and word (bit_not w64 known)) place ≡ 1
+  lacks_from set unset = omega (arith, lacking, set, unset)
+
+-- a bit that is not set, by the word that it is in
+module _ (width row bit : ℕ) (words : List ℕ) where
+  pub unset_in_word : (place : ℕ) → place < 64 → bit_at (get_or words (row * width + bit / 64) 0) place ≡ 0 → row_bit width words row (bit - bit % 64 + place) ≡ false
+  unfolding row_bit
+  unset_in_word place inside unset =
+      let found : ℕ = bit - bit % 64 + place in
+      let word_at : found / 64 ≡ bit / 64 = omega arith in
+      let place_at : found % 64 ≡ place = omega arith in
+      let zero_is : bit_at (get_or words (row * width + found / 64) 0) (found % 64) ≡ 0 =
+      ap (λ k. bit_at (get_or words (row * width + k) 0) (found % 64)) word_at ∙ ap (bit_at (get_or words (row * width + bit / 64) 0)) place_at ∙ unset in
+      ne_eqb (bit_at (get_or words (row * width + found / 64) 0) (found % 64)) 1 (λ e. omega (arith, e, zero_is))
+
+  pub word_of_unset : (b : ℕ) → bit ≤ b → b < bit - bit % 64 + 64 → row_bit width words row b ≡ false → bit_at (get_or words (row * width + bit / 64) 0) (b % 64) ≡ 0
+  unfolding row_bit
+  word_of_unset b le below unset =
+      let word_at : b / 64 ≡ bit / 64 = omega arith in
+      let one = bit_at-lt (get_or words (row * width + b / 64) 0) (b % 64) in
+      let zero_is : bit_at (get_or words (row * width + b / 64) 0) (b % 64) ≡ 0 =
+      elim (cases_eq (bit_at (get_or words (row * width + b / 64) 0) (b % 64)) 1) [
+        | inl set ↦ absurd (both_ways (bit_at (get_or words (row * width + b / 64) 0) (b % 64) == 1) unset (eq-eqb _ 1 set))
+        | inr other ↦ omega (arith, other, one)
+      ] in
+      ap (λ k. bit_at (get_or words (row * width + k) 0) (b % 64)) (sym word_at) ∙ zero_is
+
+-- an edge that a closed row lacks, by the words that its bits are in
+pub missing_in_word : (nodes width member row bit : ℕ) (words closed : List ℕ) → get_or closed (row * width + bit / 64) 0 < 2 ^ 64
+    → (b : ℕ) → bit ≤ b → b < bit - bit % 64 + 64 → within nodes (row_bit width words) member b ≡ true → row_bit width closed row b ≡ false
+    → (bit % 64 ≤ b % 64) × (b ≡ bit - bit % 64 + b % 64)
+    × (bit_at (bit_and (get_or words (member * width + bit / 64) 0) (bit_not w64 (get_or closed (row * width + bit / 64) 0))) (b % 64) ≡ 1)
+missing_in_word nodes width member row bit words closed fits b le below edge unset =
+    let word = word_of_edge nodes width member bit words b le below edge in (
+      word.0,
+      word.1,
+      lacks_from (get_or words (member * width + bit / 64) 0) (get_or closed (row * width + bit / 64) 0) (b % 64) fits (omega arith) word.2
+          (word_of_unset width row bit closed b le below unset),
+    )

@@ -139,40 +139,49 @@ pub record Takes (nodes : ℕ) (edges old new : ℕ → ℕ → Bool) (row membe
   pub filled : (members : List ℕ) → Contains members member → IsFilled nodes edges old members row → IsFilled nodes edges new members row
   pub covered : (members : List ℕ) → Contains members member → IsFilled nodes edges old members row → (v : ℕ) → v < count → edges member v ≡ true → new row v ≡ true
 
--- the next edge is the first from the number on
-next_covered : (edges : ℕ → ℕ → Bool) (member count to v : ℕ) → ((b : ℕ) → count ≤ b → edges member b ≡ true → to ≤ b) → v < to + 1 → edges member v ≡ true → (v < count) ⊎ (v ≡ to)
-next_covered edges member count to v first below e =
+-- the next edge that is missing is the first from the number on
+next_covered : (edges rows : ℕ → ℕ → Bool) (row member count to v : ℕ) → ((b : ℕ) → count ≤ b → edges member b ≡ true → rows row b ≡ false → to ≤ b) → v < to + 1 → edges member v ≡ true
+    → (v < count) ⊎ ((rows row v ≡ true) ⊎ (v ≡ to))
+next_covered edges rows row member count to v first below e =
     elim (cases_lt v count) [
       | inl before ↦ inl before
-      | inr from ↦ let le = first v from e in inr (omega arith)
+      | inr from ↦ inr (missing_or_not (rows row v) (first v from e))
     ]
+  where
+    missing_or_not : (t : Bool) → (t ≡ false → to ≤ v) → (t ≡ true) ⊎ (v ≡ to)
+    missing_or_not true le = inl refl
+    missing_or_not false le = let up = le refl in inr (omega arith)
 
 module _ (nodes : ℕ) (edges : ℕ → ℕ → Bool) where
   pub takes_more : AreBelow nodes edges → (old cur new : ℕ → ℕ → Bool) (row member count to : ℕ) → Takes nodes edges old cur row member count
-      → edges member to ≡ true → ((b : ℕ) → count ≤ b → edges member b ≡ true → to ≤ b) → cur row to ≡ false → Adds nodes cur new row (cur to)
+      → edges member to ≡ true → cur row to ≡ false → ((b : ℕ) → count ≤ b → edges member b ≡ true → cur row b ≡ false → to ≤ b) → Adds nodes cur new row (cur to)
       → Takes nodes edges old new row member (to + 1)
-  takes_more bounded old cur new row member count to t e first unset step = record {
+  takes_more bounded old cur new row member count to t e unset first step = record {
     kept = keeps_on nodes cur new row (cur to) step old t.kept;
     filled = λ members there f. (joined_to nodes edges bounded cur new members row member to (t.filled members there f) step there e unset).0;
     covered = λ members there f v below edge.
-        elim (next_covered edges member count to v first below edge) [
+        elim (next_covered edges cur row member count to v first below edge) [
           | inl before ↦ join_keeps nodes cur new row (cur to) step row v (bounded.ends member v edge).1 (t.covered members there f v before edge)
-          | inr same ↦ subst (λ (x : ℕ). new row x ≡ true) (sym same) (joined_to nodes edges bounded cur new members row member to (t.filled members there f) step there e unset).1
+          | inr now ↦ elim now [
+            | inl has ↦ join_keeps nodes cur new row (cur to) step row v (bounded.ends member v edge).1 has
+            | inr same ↦ subst (λ (x : ℕ). new row x ≡ true) (sym same) (joined_to nodes edges bounded cur new members row member to (t.filled members there f) step there e unset).1
+          ]
         ];
   }
 
-  pub takes_none : (old cur : ℕ → ℕ → Bool) (row member count to : ℕ) → Takes nodes edges old cur row member count
-      → ((b : ℕ) → count ≤ b → edges member b ≡ true → to ≤ b) → cur row to ≡ true
-      → Takes nodes edges old cur row member (to + 1)
-  takes_none old cur row member count to t first set = record {
-    kept = t.kept;
-    filled = t.filled;
-    covered = λ members there f v below edge.
-        elim (next_covered edges member count to v first below edge) [
-          | inl before ↦ t.covered members there f v before edge
-          | inr same ↦ subst (λ (x : ℕ). cur row x ≡ true) (sym same) set
-        ];
-  }
+  -- where no edge is missing from the number on
+  pub takes_all : (old cur : ℕ → ℕ → Bool) (row member count : ℕ) → Takes nodes edges old cur row member count
+      → ((b : ℕ) → count ≤ b → edges member b ≡ true → cur row b ≡ false → ⊥)
+      → (members : List ℕ) → Contains members member → IsFilled nodes edges old members row → (v : ℕ) → edges member v ≡ true → cur row v ≡ true
+  takes_all old cur row member count t none members there f v edge =
+      elim (cases_lt v count) [
+        | inl before ↦ t.covered members there f v before edge
+        | inr from ↦ set_or_missing (cur row v) (none v from edge)
+      ]
+    where
+      set_or_missing : (b : Bool) → (b ≡ false → ⊥) → b ≡ true
+      set_or_missing true missing = refl
+      set_or_missing false missing = absurd (missing refl)
 
   -- the row of a group is copied to a member
   pub copied : (rows new : ℕ → ℕ → Bool) (m row : ℕ) → AreClosed nodes edges rows → m < nodes → row < nodes → rows row row ≡ true

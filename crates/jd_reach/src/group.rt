@@ -5,7 +5,7 @@ ghost use Rattle.jd_reach.specs.Paths.{ReachesBy};
 ghost use Rattle.jd_reach.specs.Rows.{row_bit, within};
 ghost use Rattle.jd_reach.specs.Searches.{AreClosed, AreKept, IsFilled, IsGroup};
 
-use crate::rows::{is_set, join, next_edge, set};
+use crate::rows::{join, next_missing, set};
 
 // Sets the bits of the members in a row.
 fn add_members(closed: &mut [u64], width: usize, nodes: usize, row: usize, members: &[usize])
@@ -47,10 +47,8 @@ fn add_reached(
         → (v : ℕ) → within nodes (row_bit width words.now) member v ≡ true → row_bit width closed.new row v ≡ true }
 {
     let mut from = 0;
-    while let Some(to) = next_edge(words, width, nodes, member, from) {
-        if !is_set(closed, width, row, to) {
-            join(closed, width, row, to);
-        }
+    while let Some(to) = next_missing(words, closed, width, nodes, member, row, from) {
+        join(closed, width, row, to);
         from = to + 1;
     }
 }

@@ -6,6 +6,7 @@ mod graph;
 mod group;
 mod rows;
 mod search;
+mod stack;
 #[cfg(test)]
 mod tests;
 

@@ -1,6 +1,6 @@
 //! Rows of bits in a slice of words, one row after another, each of `width` words.
 
-ghost use Rattle.std.specs.Prelude.{◌≡◌, ℕ, ◌+◌, ◌*◌, ◌<◌, ◌≤◌, ◌&&◌, ◌||◌, ◌==◌, true, length, IfSome, IsSomeAnd};
+ghost use Rattle.std.specs.Prelude.{◌≡◌, ℕ, ◌+◌, ◌*◌, ◌<◌, ◌≤◌, ◌&&◌, ◌||◌, ◌==◌, true, false, length, IfSome, IsSomeAnd};
 ghost use Rattle.std.specs.Int.{bit_at};
 ghost use Rattle.jd_reach.specs.Rows.{row_bit, within};
 
@@ -66,6 +66,42 @@ pub(crate) fn next_edge(
     let mut bit = from;
     while bit < nodes {
         if let Some(place) = lowest_from(words[row * width + bit / 64], bit % 64) {
+            let found = bit - bit % 64 + place;
+            if found < nodes {
+                return Some(found);
+            }
+            return None;
+        }
+        bit = bit - bit % 64 + 64;
+    }
+    None
+}
+
+// The first node, from one on, that a node has an edge to and that a closed row lacks.
+pub(crate) fn next_missing(
+    words: &[u64],
+    closed: &[u64],
+    width: usize,
+    nodes: usize,
+    member: usize,
+    row: usize,
+    from: usize,
+) -> Option<usize>
+    requires words { nodes * width ≤ length words.now }
+    requires rows { nodes * width ≤ length closed.now }
+    requires bits { nodes ≤ 64 * width }
+    requires few { nodes ≤ 65536 }
+    requires member { member < nodes }
+    requires row { row < nodes }
+    ensures found { IfSome result (λ v. (from ≤ v) × (v < nodes) × (within nodes (row_bit width words.now) member v ≡ true) × (row_bit width closed.now row v ≡ false)) }
+    ensures first { (b : ℕ) → from ≤ b → within nodes (row_bit width words.now) member b ≡ true → row_bit width closed.now row b ≡ false
+        → IsSomeAnd result (λ v. v ≤ b) }
+{
+    let mut bit = from;
+    while bit < nodes {
+        let word = words[member * width + bit / 64];
+        let known = closed[row * width + bit / 64];
+        if let Some(place) = lowest_from(word & !known, bit % 64) {
             let found = bit - bit % 64 + place;
             if found < nodes {
                 return Some(found);

@@ -1,7 +1,7 @@
 //! The search for the strong components of a graph along one path (H. N. Gabow, "Path-based depth-first
 //! search for strong and biconnected components", 2000).
 
-ghost use Rattle.std.specs.Prelude.{◌≡◌, ℕ, ◌+◌, ◌*◌, ◌<◌, ◌≤◌, ◌⊎◌, ◌↔◌, ◌++◌, ◌∷◌, [], Bool, true, false, List, length, slice_index, vec_len, Contains, IfOk, IfSome, IsSome, IsTrue, OnOk};
+ghost use Rattle.std.specs.Prelude.{◌≡◌, ℕ, ◌+◌, ◌*◌, ◌<◌, ◌≤◌, Bool, true, false, length, slice_index, vec_len, IfOk, IfSome, IsSome, OnOk};
 ghost use Rattle.std.specs.Bool.{Decides};
 ghost use Rattle.jd_reach.specs.Paths.{ReachesBy};
 ghost use Rattle.jd_reach.specs.Rows.{row_bit, within};
@@ -10,6 +10,7 @@ ghost use Rattle.jd_reach.specs.States.{HasVisited, IsNew, IsState, Opens, Settl
 
 use crate::group::close_from;
 use crate::rows::{is_set, next_edge};
+use crate::stack::{drop_last, ends_in, last_of, pop_above};
 use jd_base::NoMemory;
 use std::alloc::Global;
 
@@ -29,46 +30,6 @@ pub(crate) struct Search {
     pub(crate) place: Vec<usize>,
     // The first edge of each node that is not looked at.
     pub(crate) next: Vec<usize>,
-}
-
-// Whether a number is the last.
-fn ends_in(numbers: &Vec<usize>, number: usize) -> bool
-    ensures { IsTrue result ↔ EndsIn numbers.now.items number }
-{
-    match numbers.last() {
-        Some(last) => *last == number,
-        None => false,
-    }
-}
-
-// The last number.
-fn last_of(numbers: &Vec<usize>) -> Option<usize>
-    ensures last { IfSome result (EndsIn numbers.now.items) }
-    ensures some { 0 < length numbers.now.items → IsSome result }
-{
-    numbers.last().copied()
-}
-
-// Takes the last number off.
-fn drop_last(numbers: &mut Vec<usize>)
-    ensures { (front : List ℕ) (last : ℕ) → numbers.old.items ≡ front ++ last ∷ [] → numbers.new.items ≡ front }
-{
-    numbers.pop();
-}
-
-// Takes the numbers above a limit off the end.
-fn pop_above(numbers: &mut Vec<usize>, limit: usize)
-    requires { IsRising numbers.old.items }
-    ensures rising { IsRising numbers.new.items }
-    ensures fewer { (n : ℕ) → Contains numbers.new.items n → Contains numbers.old.items n × (n ≤ limit) }
-    ensures kept { (n : ℕ) → Contains numbers.old.items n → n ≤ limit → Contains numbers.new.items n }
-{
-    while let Some(last) = last_of(numbers) {
-        if last <= limit {
-            return;
-        }
-        drop_last(numbers);
-    }
 }
 
 impl Search {
@@ -124,11 +85,11 @@ impl Search {
             → EndsIn self.old.frames.items position → to < nodes → edges (slice_index self.old.opened.items position) to ≡ true
             → OnOk result (Settles nodes width edges self.old self.new position to) }
     {
-        if is_set(&self.closed, width, to, to) {
-            return Ok(());
-        }
         if let Some(position) = self.position_of(to) {
             pop_above(&mut self.starts, position);
+            return Ok(());
+        }
+        if is_set(&self.closed, width, to, to) {
             return Ok(());
         }
         self.visit(to)?;

@@ -46,6 +46,23 @@ fn edges_are(graph: &Graph, nodes: u32, edges: &[(u32, u32)], looped: bool) -> b
     true
 }
 
+// Whether the graph of these edges is closed to these ways, with one from each node to itself.
+fn closes_to(
+    alloc: Global,
+    nodes: u32,
+    edges: &[(u32, u32)],
+    ways: &[(u32, u32)],
+) -> Result<bool, NoMemory>
+    requires { nodes ≤ 65536 }
+{
+    let mut graph = graph_of(alloc, nodes, edges)?;
+    if !edges_are(&graph, nodes, edges, false) {
+        return Ok(false);
+    }
+    graph.close(alloc)?;
+    Ok(edges_are(&graph, nodes, ways, true))
+}
+
 // Nodes, edges, and which nodes reach which others.
 #[test]
 fn closes_graphs(rt: HostRuntime) -> Result<(), Fail> {
@@ -91,10 +108,116 @@ fn closes_graphs(rt: HostRuntime) -> Result<(), Fail> {
             &[(128, 63), (128, 64), (128, 0), (63, 64), (63, 0), (64, 0)],
         ),
     ] {
-        let mut graph = graph_of(rt.alloc(), nodes, edges)?;
-        assert!(rt; edges_are(&graph, nodes, edges, false), "{edges:?}");
-        graph.close(rt.alloc())?;
-        assert!(rt; edges_are(&graph, nodes, ways, true), "{edges:?}, closed");
+        assert!(rt; closes_to(rt.alloc(), nodes, edges, ways)?, "{edges:?}");
+    }
+    Ok(())
+}
+
+// The same of graphs with cycles.
+#[test]
+fn closes_cycles(rt: HostRuntime) -> Result<(), Fail> {
+    for (nodes, edges, ways) in [
+        // two cycles, one of which leads to the other
+        (
+            4,
+            [(0, 1), (1, 0), (1, 2), (2, 3), (3, 2)].as_slice(),
+            [
+                (0, 1),
+                (0, 2),
+                (0, 3),
+                (1, 0),
+                (1, 2),
+                (1, 3),
+                (2, 3),
+                (3, 2),
+            ]
+            .as_slice(),
+        ),
+        // two cycles that share a node
+        (
+            3,
+            &[(0, 1), (1, 0), (0, 2), (2, 0)],
+            &[(0, 1), (0, 2), (1, 0), (1, 2), (2, 0), (2, 1)],
+        ),
+        // a cycle that is entered in its middle
+        (
+            4,
+            &[(0, 2), (1, 2), (2, 3), (3, 1)],
+            &[
+                (0, 1),
+                (0, 2),
+                (0, 3),
+                (1, 2),
+                (1, 3),
+                (2, 1),
+                (2, 3),
+                (3, 1),
+                (3, 2),
+            ],
+        ),
+        // edges from nodes to themselves
+        (3, &[(0, 0), (0, 1), (1, 1)], &[(0, 1)]),
+        // an edge back over two groups, one of them a cycle
+        (
+            5,
+            &[(0, 1), (1, 2), (2, 3), (3, 2), (3, 4), (4, 1)],
+            &[
+                (0, 1),
+                (0, 2),
+                (0, 3),
+                (0, 4),
+                (1, 2),
+                (1, 3),
+                (1, 4),
+                (2, 1),
+                (2, 3),
+                (2, 4),
+                (3, 1),
+                (3, 2),
+                (3, 4),
+                (4, 1),
+                (4, 2),
+                (4, 3),
+            ],
+        ),
+        // a node that two components lead to
+        (
+            5,
+            &[(0, 1), (1, 0), (1, 4), (2, 3), (3, 2), (3, 4)],
+            &[
+                (0, 1),
+                (0, 4),
+                (1, 0),
+                (1, 4),
+                (2, 3),
+                (2, 4),
+                (3, 2),
+                (3, 4),
+            ],
+        ),
+        // rows of two and of three words
+        (
+            66,
+            &[(1, 65), (65, 63), (63, 1)],
+            &[(1, 63), (1, 65), (63, 1), (63, 65), (65, 1), (65, 63)],
+        ),
+        (
+            129,
+            &[(0, 128), (64, 0), (64, 65), (128, 64)],
+            &[
+                (0, 64),
+                (0, 65),
+                (0, 128),
+                (64, 0),
+                (64, 65),
+                (64, 128),
+                (128, 0),
+                (128, 64),
+                (128, 65),
+            ],
+        ),
+    ] {
+        assert!(rt; closes_to(rt.alloc(), nodes, edges, ways)?, "{edges:?}");
     }
     Ok(())
 }

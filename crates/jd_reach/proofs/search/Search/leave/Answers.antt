@@ -1,7 +1,8 @@
-use Rattle.std.proofs.Common.{ℕ, Bool, refl}
+use Rattle.std.proofs.Common.{ℕ, Bool, List, refl, sym, subst}
 use Rattle.std.specs.List.{Contains}
 use Rattle.std.proofs.lemmas.Bool.{both_ways}
 use Rattle.jd_reach.specs.Rows.{row_bit, within}
+use Rattle.jd_reach.specs.Searches.{EndsIn}
 use Rattle.jd_reach.proofs.Searching.{frame_left, same_search, starts_up_to}
 use Rattle.jd_reach.proofs.Stacks.{ends_at}
 use Rattle.jd_reach.proofs.search.Search.leave.Goals as goal
@@ -12,8 +13,8 @@ returns-clause-state c =
     let rows : ℕ → ℕ → Bool = row_bit c.args.width c.args.self.now.closed.items in
     let no_start : Contains c.args.self.now.starts.items c.args.position → ⊥ =
     λ start. both_ways c.ends_in.result c.if-ends_in.false
-    (c.ends_in.ensures.1 (ends_at c.args.self.now.starts.items c.args.position c.requires.state.run.starts_rise start
-    (starts_up_to c.args.nodes edges rows c.args.self.now.opened.items c.args.self.now.starts.items c.args.self.now.frames.items c.args.self.now.place.items c.args.self.now.next.items c.requires.state.run c.args.position c.requires.frame))) in
+    (c.ends_in.ensures.1 (subst (λ (l : List ℕ). EndsIn l c.args.position) (sym c.deref.ensures.value) (ends_at c.args.self.now.starts.items c.args.position c.requires.state.run.starts_rise start
+    (starts_up_to c.args.nodes edges rows c.args.self.now.opened.items c.args.self.now.starts.items c.args.self.now.frames.items c.args.self.now.place.items c.args.self.now.next.items c.requires.state.run c.args.position c.requires.frame)))) in
     record {
       size = c.requires.state.size;
       run = same_search c.args.nodes edges rows _ _ _ _ _ _ _ _ _ _

@@ -1,4 +1,4 @@
-use Rattle.std.proofs.Common.{◌≡◌, ◌<◌, ℕ, Bool, List, true, false, refl, length, sym, subst, inl, inr, arith}
+use Rattle.std.proofs.Common.{◌≡◌, ◌<◌, ℕ, Bool, List, true, false, refl, length, ap, sym, subst, inl, inr, arith}
 use Rattle.std.specs.List.{Contains}
 use Rattle.std.proofs.lemmas.Bool.{cases_lt, both_ways}
 use Rattle.std.proofs.lemmas.List.Elements.{Contains-push}
@@ -23,24 +23,24 @@ loop-position-init c =
     }
 
 -- no frame is left
-no_frame : (xs : List ℕ) → (0 < length xs → false ≡ true) → length xs ≡ 0
-no_frame xs some =
-    elim (cases_lt 0 (length xs)) [
+no_frame : (xs ys : List ℕ) → ys ≡ xs → (0 < length ys → false ≡ true) → length xs ≡ 0
+no_frame xs ys same some =
+    elim (cases_lt 0 (length ys)) [
       | inl more ↦ absurd (both_ways false refl (some more))
-      | inr empty ↦ omega arith
+      | inr empty ↦ omega (arith, empty, ap length same)
     ]
 
 pub returns-clause-none : goal.returns-clause-none
 returns-clause-none c =
     none_opened c.args.nodes c.args.width (within c.args.nodes (row_bit c.args.width c.args.words.now)) c.loop-position.self c.loop-position.invariant.state
-    (no_frame c.loop-position.self.frames.items c.in_default.ensures.some)
+    (no_frame c.loop-position.self.frames.items c.deref.result.now c.deref.ensures.value c.in_default.ensures.some)
 
 pub returns-clause-finished : goal.returns-clause-finished
 returns-clause-finished c =
     seen_is_finished c.args.nodes c.args.width (within c.args.nodes (row_bit c.args.width c.args.words.now)) c.loop-position.self c.loop-position.invariant.state
-    (no_frame c.loop-position.self.frames.items c.in_default.ensures.some) c.args.root c.loop-position.invariant.root
+    (no_frame c.loop-position.self.frames.items c.deref.result.now c.deref.ensures.value c.in_default.ensures.some) c.args.root c.loop-position.invariant.root
 
 pub returns-clause-kept : goal.returns-clause-kept
 returns-clause-kept c v below closed =
     seen_is_finished c.args.nodes c.args.width (within c.args.nodes (row_bit c.args.width c.args.words.now)) c.loop-position.self c.loop-position.invariant.state
-    (no_frame c.loop-position.self.frames.items c.in_default.ensures.some) v (c.loop-position.invariant.kept v below closed)
+    (no_frame c.loop-position.self.frames.items c.deref.result.now c.deref.ensures.value c.in_default.ensures.some) v (c.loop-position.invariant.kept v below closed)

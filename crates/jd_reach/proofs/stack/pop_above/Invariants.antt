@@ -1,7 +1,7 @@
 use Rattle.std.proofs.Common.{vec_len, ℕ, ◌≤◌}
 use Rattle.std.specs.List.{Contains}
 use Rattle.jd_reach.specs.Searches.{IsRising}
-use Rattle.jd_reach.proofs.search.pop_above.Given as goal
+use Rattle.jd_reach.proofs.stack.pop_above.Given as goal
 
 abbrev pub invariant-loop-last : goal.invariant-loop-last
 invariant-loop-last l = record {
