@@ -71,6 +71,6 @@ pub fn family_graph(
         by_name: &by_name,
     };
     let mut graph = graph_of_calls(alloc, &callees, members, count)?;
-    graph.close();
+    graph.close(alloc)?;
     Ok(graph)
 }

@@ -23,9 +23,11 @@ pub record IsFilled (nodes : ℕ) (edges rows : ℕ → ℕ → Bool) (members :
   pub group : IsGroup nodes edges rows members
   pub member : Contains members row
   pub sound : (a b : ℕ) → a < nodes → b < nodes → rows a b ≡ true → ReachesBy edges a b
-  pub whole : (a b c : ℕ) → a ≢ row → a < nodes → b < nodes → c < nodes → rows a b ≡ true → ReachesBy edges a c → rows a c ≡ true
+  pub whole : (a b c : ℕ) → a ≢ row → a < nodes → b < nodes → c < nodes
+      → rows a b ≡ true → ReachesBy edges a c → rows a c ≡ true
   pub members_set : (m : ℕ) → Contains members m → rows row m ≡ true
-  pub others : (v : ℕ) → v < nodes → rows row v ≡ true → Contains members v ⊎ ((b : ℕ) → b < nodes → ReachesBy edges v b → rows row b ≡ true)
+  pub others : (v : ℕ) → v < nodes → rows row v ≡ true
+      → Contains members v ⊎ ((b : ℕ) → b < nodes → ReachesBy edges v b → rows row b ≡ true)
 
 -- numbers in rising order
 pub record IsRising (xs : List ℕ) : Type 0 where
@@ -41,7 +43,9 @@ IsNotBelow starts i j = (s : ℕ) → Contains starts s → s ≤ i → s ≤ j
 
 -- an edge from position i leads to a node whose row is closed, or to one that is open and not in a lower group
 abbrev pub IsSettled : (ℕ → ℕ → Bool) → List ℕ → List ℕ → ℕ → ℕ → Type 0
-IsSettled rows opened starts i v = (rows v v ≡ true) ⊎ ((j : ℕ) × (j < length opened) × (slice_index opened j ≡ v) × IsNotBelow starts i j)
+IsSettled rows opened starts i v =
+    (rows v v ≡ true)
+    ⊎ ((j : ℕ) × (j < length opened) × (slice_index opened j ≡ v) × IsNotBelow starts i j)
 
 -- the row of a node is closed, or the node is open
 abbrev pub IsVisited : (ℕ → ℕ → Bool) → List ℕ → ℕ → Type 0

@@ -7,7 +7,8 @@ use Rattle.jd_reach.specs.Searches.{IsSearch, IsSettled, IsVisited}
 -- a search over rows of so many words
 pub record IsState (nodes width : ℕ) (edges : ℕ → ℕ → Bool) (s : Search) : Type 0 where
   pub size : length s.closed.items ≡ nodes * width
-  pub run : IsSearch nodes edges (row_bit width s.closed.items) s.opened.items s.starts.items s.frames.items s.place.items s.next.items
+  pub run : IsSearch nodes edges (row_bit width s.closed.items)
+      s.opened.items s.starts.items s.frames.items s.place.items s.next.items
 
 -- before the first node is visited
 pub record IsNew (nodes size : ℕ) (s : Search) : Type 0 where

@@ -83,8 +83,10 @@ fn copy_row(closed: &mut [u64], width: usize, nodes: usize, row: usize, members:
     requires row { row < nodes }
     requires below { (m : ℕ) → Contains members.now m → m < nodes }
     ensures kept { AreKept nodes (row_bit width closed.old) (row_bit width closed.new) }
-    ensures copied { (m b : ℕ) → Contains members.now m → b < nodes → row_bit width closed.old row b ≡ true → row_bit width closed.new m b ≡ true }
-    ensures closed { (edges : ℕ → ℕ → Bool) → AreClosed nodes edges (row_bit width closed.old) → row_bit width closed.old row row ≡ true
+    ensures copied { (m b : ℕ) → Contains members.now m → b < nodes → row_bit width closed.old row b ≡ true
+        → row_bit width closed.new m b ≡ true }
+    ensures closed { (edges : ℕ → ℕ → Bool) → AreClosed nodes edges (row_bit width closed.old)
+        → row_bit width closed.old row row ≡ true
         → ((m : ℕ) → Contains members.now m → ReachesBy edges m row × ReachesBy edges row m)
         → AreClosed nodes edges (row_bit width closed.new) }
 {
@@ -126,7 +128,8 @@ pub(crate) fn close_from(
     requires bits { nodes ≤ 64 * width }
     requires few { nodes ≤ 65536 }
     requires some { position < length opened.now }
-    requires group { IsGroup nodes (within nodes (row_bit width words.now)) (row_bit width closed.old.items) (drop position opened.now) }
+    requires group { IsGroup nodes (within nodes (row_bit width words.now)) (row_bit width closed.old.items)
+        (drop position opened.now) }
     requires closed { AreClosed nodes (within nodes (row_bit width words.now)) (row_bit width closed.old.items) }
     ensures size { length closed.new.items ≡ length closed.old.items }
     ensures kept { AreKept nodes (row_bit width closed.old.items) (row_bit width closed.new.items) }

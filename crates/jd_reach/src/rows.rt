@@ -93,9 +93,10 @@ pub(crate) fn next_missing(
     requires few { nodes ≤ 65536 }
     requires member { member < nodes }
     requires row { row < nodes }
-    ensures found { IfSome result (λ v. (from ≤ v) × (v < nodes) × (within nodes (row_bit width words.now) member v ≡ true) × (row_bit width closed.now row v ≡ false)) }
-    ensures first { (b : ℕ) → from ≤ b → within nodes (row_bit width words.now) member b ≡ true → row_bit width closed.now row b ≡ false
-        → IsSomeAnd result (λ v. v ≤ b) }
+    ensures found { IfSome result (λ v. (from ≤ v) × (v < nodes)
+        × (within nodes (row_bit width words.now) member v ≡ true) × (row_bit width closed.now row v ≡ false)) }
+    ensures first { (b : ℕ) → from ≤ b → within nodes (row_bit width words.now) member b ≡ true
+        → row_bit width closed.now row b ≡ false → IsSomeAnd result (λ v. v ≤ b) }
 {
     let mut bit = from;
     while bit < nodes {

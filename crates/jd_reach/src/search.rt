@@ -190,7 +190,8 @@ impl Search {
         ensures state { OnOk result (IsState nodes width (within nodes (row_bit width words.now)) self.new) }
         ensures none { OnOk result (length self.new.opened.items ≡ 0) }
         ensures finished { OnOk result (row_bit width self.new.closed.items root root ≡ true) }
-        ensures kept { OnOk result ((v : ℕ) → v < nodes → row_bit width self.old.closed.items v v ≡ true → row_bit width self.new.closed.items v v ≡ true) }
+        ensures kept { OnOk result ((v : ℕ) → v < nodes → row_bit width self.old.closed.items v v ≡ true
+            → row_bit width self.new.closed.items v v ≡ true) }
     {
         self.visit(root)?;
         while let Some(position) = last_of(&self.frames) {

@@ -86,4 +86,4 @@ returns-clause-reaches c units tables seen calls they_are a b a_below b_below =
     let d = (goal.at.returns-clause-reaches c).After-close in
     reaches c.depths_are_an_order.ensures.transitive c.numbers_of_routines.ensures.members c.numbers_of_routines.ensures.routines c.numbers_of_classes.ensures.parents units tables.tables.stand c.args.names.now.numbers.items (lookup (callees_of d)) (looked_up d units tables seen)
     (edge c.in_ok-graph.graph) calls (edges_are d units tables) they_are (edge c.close.new.self a b) a b
-    (c.close.ensures.closed a b (omega (arith, a_below, c.in_ok-graph.ensures.count)) (omega (arith, b_below, c.in_ok-graph.ensures.count)))
+    (c.in_ok-close.ensures.closed a b (omega (arith, a_below, c.in_ok-graph.ensures.count)) (omega (arith, b_below, c.in_ok-graph.ensures.count)))
