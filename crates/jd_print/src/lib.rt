@@ -1,0 +1,14 @@
+//! The text of terms, formulas and code (rules of printing: one space between two tokens, none inside a bracket's edge).
+#![tactic(auto)]
+
+mod code;
+mod formulas;
+mod names;
+mod terms;
+#[cfg(test)]
+mod tests;
+mod words;
+
+pub use formulas::print_formula;
+pub use names::NameTexts;
+pub use terms::print_term;

@@ -1,0 +1,4 @@
+pub mod Examples
+pub mod NameTables
+pub mod Spelling
+pub mod Words
