@@ -1,4 +1,4 @@
-mod Ending
+pub mod Ending
 mod Settling
 mod Turning
 mod Wanting

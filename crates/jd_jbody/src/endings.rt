@@ -315,8 +315,9 @@ fn end_initial(
     Ok(declared(limit, declaration, ty, names, frames, terminal, at))
 }
 
-/// A token behind an expression.
-pub(crate) fn end_value(
+/// What becomes of a body by the token before which an expression in this hole ended: what the expression stands in goes on
+/// with that token, or ends with it (JLS 14). `None` where no body goes on so.
+pub fn end_value(
     alloc: Global,
     limit: u16,
     hole: Hole,

@@ -19,7 +19,9 @@ mod tests;
 mod want;
 
 pub use body::{ended_body, is_whole, start_body, step};
+pub use endings::end_value;
 pub use reading::{
     BodyReading, CatchState, Declaration, Frame, Hole, ItemsBefore, ListPlace, NamesBefore,
     Opening, Role, Top,
 };
+pub use terminals::name_turns;

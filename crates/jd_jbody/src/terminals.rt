@@ -155,7 +155,7 @@ pub(crate) fn is_finally(terminal: &Terminal<'_>) -> bool
 }
 
 /// Whether a name stands alone that a word makes a type and a colon a label.
-pub(crate) fn name_turns(terminal: &Terminal<'_>, reading: &Reading) -> bool
+pub fn name_turns(terminal: &Terminal<'_>, reading: &Reading) -> bool
     ensures { result ≡ terminals.name_turns (terminal_view terminal.now) (reading_view reading.now) }
 {
     match terminal {

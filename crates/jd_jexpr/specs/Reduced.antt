@@ -1,5 +1,5 @@
 -- What the code makes of an operand and of what waits for it.
-use Rattle.std.specs.Prelude.{◌≡◌, ℕ, List, ◌∷◌, Option, Some, None}
+use Rattle.std.specs.Prelude.{◌≡◌, ℕ, Bool, true, false, List, [], ◌∷◌, Option, Some, None}
 use Rattle.jd_jgrammar.specs.ExpressionReader as reader
 use Rattle.jd_jtrees.specs.CappedTrees.{Capped, CappedList, capped_trees}
 use Rattle.jd_jexpr.specs.declared.values.Value.{Value}
@@ -22,6 +22,17 @@ part_view v fs = (value_view v, stack_view fs)
 abbrev pub reduced : Option Value → List Frame → Option Part
 reduced (Some v) fs = Some (part_view v fs)
 reduced None fs = None
+
+-- whether an operand stays as it is: nothing waits for it, or a bracket or a colon has to come first
+abbrev pub is_held : Stack → Bool
+is_held [] = true
+is_held (reader.InParentheses p ∷ fs) = true
+is_held (reader.InIndex a p ∷ fs) = true
+is_held (reader.InLength p q r ∷ fs) = true
+is_held (reader.InCall c p ∷ fs) = true
+is_held (reader.InArguments c p xs q ∷ fs) = true
+is_held (reader.AfterQuestion c p ∷ fs) = true
+is_held _ = false
 
 -- what follows from it, over what waits below, where the rest is done by `go`
 abbrev pub completed_part : Completed → Stack → (Capped → Option Part) → Option Part

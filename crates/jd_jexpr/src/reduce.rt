@@ -2,6 +2,7 @@ ghost use Rattle.std.specs.Prelude.{◌≡◌, IfOk};
 ghost use Rattle.jd_jgrammar.specs.ExpressionReader as reader;
 ghost use Rattle.jd_jtrees.specs.CappedTrees.{capped_trees};
 ghost use Rattle.jd_jexpr.specs.Views.{stack_view, value_view};
+ghost use Rattle.jd_jexpr.specs.Reduced as waiting;
 ghost use Rattle.jd_jexpr.specs.Reduced.{Completes, reduced};
 
 use crate::builders::{assigned, binary, cast, conditional, prefixed};
@@ -150,9 +151,26 @@ fn complete(
     }
 }
 
-/// The operand as far as it goes at a level, from 0, the loosest; what waits for it is left on the stack. `None` where no
-/// expression begins so.
-pub(crate) fn reduce(
+// Whether an operand stays as it is: nothing waits for it, or a bracket or a colon has to come first.
+fn is_held(frames: &Vec<Frame>) -> bool
+    ensures { result ≡ waiting.is_held (stack_view frames.now.items) }
+{
+    match frames.last() {
+        None
+        | Some(
+            Frame::InParentheses(_)
+            | Frame::InIndex(_, _)
+            | Frame::InLength(_, _, _)
+            | Frame::InCall(_, _)
+            | Frame::InArguments(_, _, _, _)
+            | Frame::AfterQuestion(_, _),
+        ) => true,
+        Some(_) => false,
+    }
+}
+
+// The operand as far as it goes, where something may take it.
+fn reduce_on(
     alloc: Global,
     limit: u16,
     level: u8,
@@ -173,4 +191,21 @@ pub(crate) fn reduce(
         }
     }
     Ok(Some(value))
+}
+
+/// The operand as far as it goes at a level, from 0, the loosest; what waits for it is left on the stack. `None` where no
+/// expression begins so.
+pub(crate) fn reduce(
+    alloc: Global,
+    limit: u16,
+    level: u8,
+    frames: &mut Vec<Frame>,
+    value: Value,
+) -> Result<Option<Value>, NoMemory>
+    ensures { IfOk result (λ o. reader.reduce (capped_trees limit) level (stack_view frames.old.items) (value_view value) ≡ reduced o frames.new.items) }
+{
+    if is_held(frames) {
+        return Ok(Some(value));
+    }
+    reduce_on(alloc, limit, level, frames, value)
 }

@@ -1,4 +1,5 @@
 mod Answering
+mod InExpressions
 mod Reading
 mod Running
 mod Tokens

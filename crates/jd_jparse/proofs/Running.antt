@@ -1,5 +1,5 @@
 -- Turns of the loop that reads a file's terminals: what is left leads on to what all of them lead to.
-use Rattle.std.proofs.Common.{◌≡◌, ℕ, ◌+◌, ◌-◌, ◌<◌, ◌≤◌, List, ◌∷◌, length, length-drop, map, drop, take, get_or, Bool, false, Option, Some, None, is_some, option_and_then, refl, sym, ap, subst, true≢false, arith, ◌∙◌}
+use Rattle.std.proofs.Common.{◌≡◌, ℕ, ◌+◌, ◌-◌, ◌<◌, ◌≤◌, List, ◌∷◌, length, length-drop, map, drop, take, get_or, Bool, false, Option, Some, None, MatchOption, is_some, option_and_then, option_map, refl, sym, ap, subst, true≢false, arith, ◌∙◌}
 use Rattle.std.proofs.lemmas.List.{at_drop_all, drop-drop, drop-map, drop_more, length-map, take_all}
 use Rattle.jd_jgrammar.specs.Tokens.{Token, Tokens}
 use Rattle.jd_jgrammar.specs.StatementReader as body
@@ -10,10 +10,14 @@ use Rattle.jd_jtrees.specs.CappedBodies.{capped_statements}
 use Rattle.jd_jtrees.specs.CappedUnits.{capped_units}
 use Rattle.jd_jbody.specs.Views as bodies
 use Rattle.jd_jfile.specs.Views.{State, RoutineClosed}
+use Rattle.jd_jbody.specs.declared.reading.BodyReading.{BodyReading}
+use Rattle.jd_jbody.specs.Views.{body_view}
+use Rattle.jd_jparse.specs.declared.turns.BodyTurn.{BodyTurn}
+use Rattle.jd_jparse.specs.declared.turns.BodyTurn.TheVariants as body_turns
 use Rattle.jd_jparse.specs.declared.turns.Turn.{Turn}
-use Rattle.jd_jparse.specs.Runs.{LeadsTo, Turned}
+use Rattle.jd_jparse.specs.Runs.{BodyLeadsTo, BodyTurned, LeadsTo, Turned}
 
-abbrev texts : List Placed → Tokens
+abbrev pub texts : List Placed → Tokens
 texts ps = map placed_view ps
 
 abbrev rest : List Placed → ℕ → List Placed
@@ -55,7 +59,7 @@ goes_on_inside limit (reader.Closes o xs r) _ e = refl
 -- ---- turns of the loop over a body's terminals, in whichever routine
 
 -- in the routine, the terminals from i on lead from the one state where all of them lead from the other
-abbrev Leads : ℕ → List Placed → ℕ → bodies.State → bodies.State → Type 0
+abbrev pub Leads : ℕ → List Placed → ℕ → bodies.State → bodies.State → Type 0
 Leads limit ps i s first = (c : RoutineClosed) → reader.run (capped_units limit) (texts (rest ps i)) (reader.InBody c tt s) ≡ reader.run (capped_units limit) (texts ps) (reader.InBody c tt first)
 
 module _ (limit : ℕ) (ps : List Placed) (i : ℕ) (d : Placed) (s first : bodies.State) (lt : i < length ps) (leads : Leads limit ps i s first) where
@@ -66,13 +70,18 @@ module _ (limit : ℕ) (ps : List Placed) (i : ℕ) (d : Placed) (s first : bodi
       reader.run (capped_units limit) (texts (rest ps (i + 1))) (reader.body_goes_on (capped_units limit) c tt next) ≡ reader.run (capped_units limit) (texts ps) (reader.InBody c tt first)
   body_goes_to next e c = next_one limit ps i d (reader.InBody c tt s) (reader.body_goes_on (capped_units limit) c tt next) _ lt (in_body limit c s (placed_view (get_or ps i d)) (Some next) e) (leads c)
 
-  pub body_is_whole : (next : bodies.State) → Some next ≡ body.step (capped_statements limit) s (placed_view (get_or ps i d)) → (c : RoutineClosed) →
-      LeadsTo limit (texts ps) (reader.InBody c tt first) (reader.body_goes_on (capped_units limit) c tt next) (i + 1)
-  body_is_whole next e c = record {
+  pub body_behind : (next : bodies.State) → Some next ≡ body.step (capped_statements limit) s (placed_view (get_or ps i d)) → BodyLeadsTo limit (texts ps) first next (i + 1)
+  body_behind next e = record {
     some = omega arith;
     within = omega (arith, lt, length-map ps placed_view);
-    leads = sym (ap (λ (ts : Tokens). reader.run (capped_units limit) ts (reader.body_goes_on (capped_units limit) c tt next)) (drop-map placed_view (i + 1) ps) ∙ body_goes_to next e c);
+    leads = λ c. sym (ap (λ (ts : Tokens). reader.run (capped_units limit) ts (reader.body_goes_on (capped_units limit) c tt next)) (drop-map placed_view (i + 1) ps) ∙ body_goes_to next e c);
   }
+
+  -- what the body becomes by the terminal
+  pub body_turns_to : (o : Option BodyReading) (t : BodyTurn) (at : ℕ) (high : Option ℕ) → MatchOption o (t ≡ body_turns.Stops at) (λ r. t ≡ body_turns.Behind r (i + 1) at high) →
+      option_map body_view o ≡ body.step (capped_statements limit) s (placed_view (get_or ps i d)) → BodyTurned limit (texts ps) first t
+  body_turns_to None t at high is e = subst (BodyTurned limit (texts ps) first) (sym is) (body_stops e)
+  body_turns_to (Some r) t at high is e = subst (BodyTurned limit (texts ps) first) (sym is) (body_behind (body_view r) e)
 
   pub body_goes : (next : bodies.State) → Some next ≡ body.step (capped_statements limit) s (placed_view (get_or ps i d)) → is_some (body.ended (capped_statements limit) next) ≡ false → Leads limit ps (i + 1) next first
   body_goes next e inside c = sym (ap (λ (st : State). reader.run (capped_units limit) (texts (rest ps (i + 1))) st) (goes_on_inside limit c next inside)) ∙ body_goes_to next e c
@@ -81,10 +90,14 @@ pub body_inside : (limit : ℕ) (ps : List Placed) (i : ℕ) (s first : bodies.S
     reader.run (capped_units limit) (texts ps) (reader.InBody c tt first) ≡ Some (reader.InBody c tt s)
 body_inside limit ps i s first le leads c = sym (at_the_end limit ps i (reader.InBody c tt s) _ le (leads c))
 
+in_routine : (limit : ℕ) (ts : Tokens) (s to : bodies.State) (n : ℕ) (c : RoutineClosed) → BodyLeadsTo limit ts s to n →
+    LeadsTo limit ts (reader.InBody c tt s) (reader.body_goes_on (capped_units limit) c tt to) n
+in_routine limit ts s to n c h = record { some = h.some; within = h.within; leads = h.leads c }
+
 -- the routine goes on behind its body
 pub body_ends : (limit : ℕ) (ts : Tokens) (s : bodies.State) (c : RoutineClosed) (whole : bodies.State) (to : State) (n : ℕ) →
-    to ≡ reader.body_goes_on (capped_units limit) c tt whole → LeadsTo limit ts (reader.InBody c tt s) (reader.body_goes_on (capped_units limit) c tt whole) n → LeadsTo limit ts (reader.InBody c tt s) to n
-body_ends limit ts s c whole to n e h = subst (λ (st : State). LeadsTo limit ts (reader.InBody c tt s) st n) (sym e) h
+    to ≡ reader.body_goes_on (capped_units limit) c tt whole → BodyLeadsTo limit ts s whole n → LeadsTo limit ts (reader.InBody c tt s) to n
+body_ends limit ts s c whole to n e h = subst (λ (st : State). LeadsTo limit ts (reader.InBody c tt s) st n) (sym e) (in_routine limit ts s whole n c h)
 
 -- ---- the first terminal
 
@@ -116,3 +129,30 @@ module _ (limit : ℕ) (ps : List Placed) (i n : ℕ) (s to : State) (turned : L
 pub turned_rest : (limit : ℕ) (ps : List Placed) (i : ℕ) (s : State) (t t' : Turn) → t ≡ t' → Turned limit (texts (take (length ps - i) (drop i ps))) s t → Turned limit (texts (rest ps i)) s t'
 turned_rest limit ps i s t t' e h =
     subst (λ (l : List Placed). Turned limit (texts l) s t') (take_all (length ps - i) (drop i ps) (omega (arith, length-drop i ps))) (subst (Turned limit (texts (take (length ps - i) (drop i ps))) s) e h)
+
+-- ---- several terminals of a body at once
+
+pub body_rest : (limit : ℕ) (ps : List Placed) (i : ℕ) (s : bodies.State) (t t' : BodyTurn) → t ≡ t' → BodyTurned limit (texts (take (length ps - i) (drop i ps))) s t → BodyTurned limit (texts (rest ps i)) s t'
+body_rest limit ps i s t t' e h =
+    subst (λ (l : List Placed). BodyTurned limit (texts l) s t') (take_all (length ps - i) (drop i ps) (omega (arith, length-drop i ps))) (subst (BodyTurned limit (texts (take (length ps - i) (drop i ps))) s) e h)
+
+module _ (limit : ℕ) (ps : List Placed) (i n : ℕ) (s next first : bodies.State) (turned : BodyLeadsTo limit (texts (rest ps i)) s next n) where
+  pub body_within : i ≤ length ps → i + n ≤ length ps
+  body_within le = omega (arith, le, turned.within, length-map (rest ps i) placed_view, length-drop i ps)
+
+  pub body_closer : i < length ps → length ps - (i + n) < length ps - i
+  body_closer lt = omega (arith, lt, turned.some)
+
+  body_leads : Leads limit ps i s first → (c : RoutineClosed) →
+      reader.run (capped_units limit) (texts (rest ps (i + n))) (reader.body_goes_on (capped_units limit) c tt next) ≡ reader.run (capped_units limit) (texts ps) (reader.InBody c tt first)
+  body_leads leads c = leads_on limit ps i n (reader.InBody c tt s) (reader.body_goes_on (capped_units limit) c tt next) _ (in_routine limit (texts (rest ps i)) s next n c turned) (leads c)
+
+  pub body_still : is_some (body.ended (capped_statements limit) next) ≡ false → Leads limit ps i s first → Leads limit ps (i + n) next first
+  body_still inside leads c = sym (ap (λ (st : State). reader.run (capped_units limit) (texts (rest ps (i + n))) st) (goes_on_inside limit c next inside)) ∙ body_leads leads c
+
+  pub body_is_whole : i ≤ length ps → Leads limit ps i s first → BodyLeadsTo limit (texts ps) first next (i + n)
+  body_is_whole le leads = record {
+    some = omega (arith, turned.some);
+    within = omega (arith, body_within le, length-map ps placed_view);
+    leads = λ c. sym (ap (λ (ts : Tokens). reader.run (capped_units limit) ts (reader.body_goes_on (capped_units limit) c tt next)) (drop-map placed_view (i + n) ps) ∙ body_leads leads c);
+  }

@@ -36,10 +36,15 @@ Turned limit ts s (turns.Goes f n high) = LeadsTo limit ts s (file_view f) n
 Turned limit ts s (turns.Ends f high) = reader.run (capped_units limit) ts s ≡ Some (file_view f)
 Turned limit ts s (turns.Stops at) = reader.run (capped_units limit) ts s ≡ None
 
+-- the same of the states of a body, inside whichever routine
+pub record BodyLeadsTo (limit : ℕ) (ts : Tokens) (from to : bodies.State) (n : ℕ) : Type 0 where
+  pub some : 0 < n
+  pub within : n ≤ length ts
+  pub leads : (c : RoutineClosed) → reader.run (capped_units limit) ts (reader.InBody c tt from) ≡ reader.run (capped_units limit) (drop n ts) (reader.body_goes_on (capped_units limit) c tt to)
+
 -- how far they are read inside the body of whichever routine
 abbrev pub BodyTurned : ℕ → Tokens → bodies.State → BodyTurn → Type 0
-BodyTurned limit ts s (body_turns.Whole r n at high) =
-    (c : RoutineClosed) → LeadsTo limit ts (reader.InBody c tt s) (reader.body_goes_on (capped_units limit) c tt (body_view r)) n
+BodyTurned limit ts s (body_turns.Behind r n at high) = BodyLeadsTo limit ts s (body_view r) n
 BodyTurned limit ts s (body_turns.Inside r high) =
     (c : RoutineClosed) → reader.run (capped_units limit) ts (reader.InBody c tt s) ≡ Some (reader.InBody c tt (body_view r))
 BodyTurned limit ts s (body_turns.Stops at) = (c : RoutineClosed) → reader.run (capped_units limit) ts (reader.InBody c tt s) ≡ None

@@ -1,6 +1,7 @@
 //! The files that tokens of Java spell, as trees, and why tokens are no file's.
 #![tactic(auto)]
 
+mod expressions;
 mod laws;
 mod parse;
 mod places;

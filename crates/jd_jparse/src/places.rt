@@ -4,7 +4,8 @@ use jd_jbody::{BodyReading, Top};
 use jd_jexpr::{Reading, Top as ExpressionTop};
 use jd_jfile::FileReading;
 
-fn is_high_expression(reading: &Reading) -> bool {
+/// Whether what was read last in an expression is higher than the limit.
+pub(crate) fn is_high_expression(reading: &Reading) -> bool {
     match &reading.top {
         ExpressionTop::Have(value) => value.tree.is_none(),
         _ => false,

@@ -6,9 +6,10 @@ ghost use Rattle.jd_jbody.specs.Views.{body_view};
 ghost use Rattle.jd_jfile.specs.Views.{file_view};
 ghost use Rattle.jd_jparse.specs.Runs.{BodyTurned, Turned};
 
+use crate::expressions::{read_expression, turn_to};
 use crate::places::{first_high, is_high, is_high_body};
 use jd_base::NoMemory;
-use jd_jbody::{BodyReading, is_whole, step as step_body};
+use jd_jbody::{BodyReading, Top, is_whole, step as step_body};
 use jd_jfile::{Closed, FileReading, body_goes_on, step};
 use jd_jtokens::Placed;
 use std::alloc::Global;
@@ -16,9 +17,8 @@ use std::alloc::Global;
 /// How far the terminals of a body are read.
 #[derive(Drop)]
 pub enum BodyTurn {
-    /// To the end of the body, with the number of terminals up to there, the offset of the last, and the first place
-    /// where something is too high.
-    Whole(BodyReading, usize, u32, Option<u32>),
+    /// Behind so many terminals, with the offset of the last, and the first place where something is too high.
+    Behind(BodyReading, usize, u32, Option<u32>),
     /// To the end of the terminals, inside the body.
     Inside(BodyReading, Option<u32>),
     /// Up to a token that no body has there.
@@ -36,6 +36,31 @@ pub enum Turn {
     Stops(u32),
 }
 
+// Some terminals more of a body, of which there is one at least: those of an expression together, others one at a time.
+fn body_on(
+    alloc: Global,
+    limit: u16,
+    reading: BodyReading,
+    high: Option<u32>,
+    placed: &[Placed<'_>],
+) -> Result<BodyTurn, NoMemory>
+    requires { 0 < length placed.now }
+    ensures { IfOk result (λ t. BodyTurned limit (map placed_view placed.now) (body_view reading) t) }
+{
+    let BodyReading { top, frames } = reading;
+    match top {
+        Top::InExpression(hole, expression) => {
+            read_expression(alloc, limit, hole, expression, frames, high, placed)
+        }
+        top => {
+            let one = &placed[0];
+            let body = BodyReading { top, frames };
+            let next = step_body(alloc, limit, body, &one.terminal, one.at)?;
+            Ok(turn_to(next, 1, one.at, high))
+        }
+    }
+}
+
 // A body, up to its end or that of the terminals.
 fn read_body(
     alloc: Global,
@@ -48,15 +73,20 @@ fn read_body(
 {
     let mut body = reading;
     let mut high = high;
-    for (number, one) in placed.iter().enumerate() {
-        let Some(next) = step_body(alloc, limit, body, &one.terminal, one.at)? else {
-            return Ok(BodyTurn::Stops(one.at));
-        };
-        if is_whole(limit, &next) {
-            return Ok(BodyTurn::Whole(next, number + 1, one.at, high));
+    let mut number = 0;
+    while number < placed.len() {
+        match body_on(alloc, limit, body, high, &placed[number..])? {
+            BodyTurn::Behind(next, taken, at, known) => {
+                number += taken;
+                if is_whole(limit, &next) {
+                    return Ok(BodyTurn::Behind(next, number, at, known));
+                }
+                high = first_high(known, is_high_body(&next), at);
+                body = next;
+            }
+            BodyTurn::Inside(inside, known) => return Ok(BodyTurn::Inside(inside, known)),
+            BodyTurn::Stops(at) => return Ok(BodyTurn::Stops(at)),
         }
-        high = first_high(high, is_high_body(&next), one.at);
-        body = next;
     }
     Ok(BodyTurn::Inside(body, high))
 }
@@ -73,7 +103,7 @@ fn in_body(
     ensures { IfOk result (λ t. Turned limit (map placed_view placed.now) (file_view (FileReading.InBody closed body)) t) }
 {
     match read_body(alloc, limit, body, high, placed)? {
-        BodyTurn::Whole(whole, number, at, high) => {
+        BodyTurn::Behind(whole, number, at, high) => {
             let next = body_goes_on(alloc, limit, closed, whole)?;
             let high = first_high(high, is_high(&next), at);
             Ok(Turn::Goes(next, number, high))

@@ -6,10 +6,10 @@ use Rattle.jd_jparse.specs.Runs.{BodyTurned}
 use Rattle.jd_jparse.proofs.Running.{body_ends}
 use Rattle.jd_jparse.proofs.turns.in_body.Goals as goal
 
-pub returns-in_ok-next-in-Whole : goal.returns-in_ok-next-in-Whole
-returns-in_ok-next-in-Whole c =
-    body_ends c.args.limit (map placed_view c.args.placed.now) (body_view c.args.body) (closed_view c.args.closed.value) (body_view c.in-Whole.whole) (file_view c.in_ok-next-in-Whole.next) c.in-Whole.number c.in_ok-next-in-Whole.ensures
-    (subst (BodyTurned c.args.limit (map placed_view c.args.placed.now) (body_view c.args.body)) c.in-Whole.is c.in_ok-whole.ensures (closed_view c.args.closed.value))
+pub returns-in_ok-next-in-Behind : goal.returns-in_ok-next-in-Behind
+returns-in_ok-next-in-Behind c =
+    body_ends c.args.limit (map placed_view c.args.placed.now) (body_view c.args.body) (closed_view c.args.closed.value) (body_view c.in-Behind.whole) (file_view c.in_ok-next-in-Behind.next) c.in-Behind.number c.in_ok-next-in-Behind.ensures
+    (subst (BodyTurned c.args.limit (map placed_view c.args.placed.now) (body_view c.args.body)) c.in-Behind.is c.in_ok-whole.ensures)
 
 pub returns-in-Inside : goal.returns-in-Inside
 returns-in-Inside c = subst (BodyTurned c.args.limit (map placed_view c.args.placed.now) (body_view c.args.body)) c.in-Inside.is c.in_ok-whole.ensures (closed_view c.args.closed.value)

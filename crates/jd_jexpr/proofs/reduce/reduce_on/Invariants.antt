@@ -2,7 +2,7 @@ use Rattle.std.proofs.Common.{◌≡◌, length}
 use Rattle.jd_jgrammar.specs.ExpressionReader as reader
 use Rattle.jd_jtrees.specs.CappedTrees.{capped_trees}
 use Rattle.jd_jexpr.specs.Views.{stack_view, value_view}
-use Rattle.jd_jexpr.proofs.reduce.reduce.Given as goal
+use Rattle.jd_jexpr.proofs.reduce.reduce_on.Given as goal
 
 abbrev pub invariant-loop-frame : goal.invariant-loop-frame
 invariant-loop-frame l =
