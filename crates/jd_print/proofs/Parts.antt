@@ -1,6 +1,6 @@
 -- The arguments of a call are smaller than the call.
 use denote.Param.Weighed.{most}
-use Rattle.std.proofs.Common.{rules, ◌≡◌, ℕ, ◌+◌, ◌*◌, ◌<◌, List, ap, arith, subst, sym}
+use Rattle.std.proofs.Common.{rules, ◌≡◌, ℕ, ◌+◌, ◌*◌, ◌<◌, List, ap, arith}
 use Rattle.jd_syntax.specs.declared.code.CodeExpr.{CodeExpr, the_lemmas}
 use Rattle.jd_syntax.specs.declared.code.CodeExpr.TheViews as views
 use Rattle.jd_syntax.proofs.code.CodeExpr.TheLaws.{the_size}

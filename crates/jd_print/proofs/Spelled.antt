@@ -12,9 +12,9 @@ use Rattle.jd_bracketed.specs.Trees.{spell, spell_all}
 use Rattle.jd_written.specs.Written.{Text, empty_text, text_of, write, write_all, number_text}
 use Rattle.jd_written.proofs.Writing.{write_all-append, written_all}
 use Rattle.jd_tgrammar.specs.NameTables.{NameTable}
-use Rattle.jd_tgrammar.specs.Spelling.{class_word, field_word, kind_word, method_word, result_word, routine, form, term_text, loc_text, expr_text, exprs_text, stmt_text, stmts_text, pairs_text, formula_text}
+use Rattle.jd_tgrammar.specs.Spelling.{class_word, field_word, kind_word, method_word, result_word, routine, term_text, loc_text, expr_text, exprs_text, stmt_text, stmts_text, pairs_text, formula_text}
 use Rattle.jd_tgrammar.specs.Words.{sort_word, arithmetic_word, select_word, modality_word, unary_word, binary_word, label_word}
-use Rattle.jd_print.specs.Writing.{begin, write_term, write_loc, write_expr, write_exprs, write_stmt, write_stmts, write_pairs, write_formula}
+use Rattle.jd_print.specs.Writing.{write_term, write_loc, write_expr, write_exprs, write_stmt, write_stmts, write_pairs, write_formula}
 
 -- ---- parts of what is written
 

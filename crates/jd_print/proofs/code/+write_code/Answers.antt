@@ -1,5 +1,3 @@
-use denote.Param.Weighed.{most}
-use Rattle.std.proofs.Common.{rules, List, ap, refl, sym, arith}
 use Rattle.jd_print.proofs.Parts.{arguments_are_smaller}
 use Rattle.jd_print.proofs.code.+write_code.Goals as goal
 
