@@ -1,0 +1,9 @@
+pub mod Answering
+pub mod Complete
+pub mod Formed
+pub mod Numerals
+pub mod Somes
+pub mod Sound
+pub mod Words
+pub mod Whole
+pub mod Worked

@@ -1,0 +1,11 @@
+pub mod Answers
+pub mod FaultExamples
+pub mod Forms
+pub mod HasForm
+pub mod Heads
+pub mod Known
+pub mod Laws
+pub mod Naming
+pub mod Reading
+pub mod Shapes
+pub mod Sorted

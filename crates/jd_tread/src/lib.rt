@@ -1,0 +1,15 @@
+//! Terms and location sets, read from bracketed expressions, over whatever names stand for.
+#![tactic(auto)]
+
+mod answer;
+mod refusal;
+mod sorted;
+mod terms;
+
+pub use answer::answer_term;
+pub use refusal::TermRefusal;
+pub use sorted::{has_sort, is_sorted, is_sorted_loc};
+pub use terms::{read_loc, read_term};
+
+#[cfg(test)]
+mod tests;

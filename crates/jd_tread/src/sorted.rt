@@ -1,0 +1,109 @@
+//! Whether the parts of terms and location sets have the sorts that their places ask for.
+
+ghost use Rattle.std.specs.Prelude.{◌≡◌};
+ghost use Rattle.jd_syntax.specs.CodeNames as names;
+ghost use Rattle.jd_term.specs.TermViews.{loc_view, term_view};
+ghost use Rattle.jd_tforms.specs.Sorted as plain;
+
+use jd_base::Sort;
+use jd_term::{Loc, Term, sort_of};
+
+fn same_sort(a: Sort, b: Sort) -> bool
+    ensures { result ≡ names.same_sort a b }
+{
+    match (a, b) {
+        (Sort::Int, Sort::Int) => true,
+        (Sort::Bool, Sort::Bool) => true,
+        (Sort::Ref, Sort::Ref) => true,
+        (Sort::Heap, Sort::Heap) => true,
+        (Sort::Field, Sort::Field) => true,
+        _ => false,
+    }
+}
+
+/// Whether the term has the sort.
+pub fn has_sort(sort: Sort, term: &Term) -> bool
+    ensures { result ≡ plain.has_sort sort (term_view term.now) }
+{
+    same_sort(sort_of(term), sort)
+}
+
+// Whether it is the sort of a value of Java.
+fn is_value(sort: Sort) -> bool
+    ensures { result ≡ plain.is_value sort }
+{
+    match sort {
+        Sort::Int | Sort::Bool | Sort::Ref => true,
+        Sort::Heap | Sort::Field => false,
+    }
+}
+
+/// Whether the parts of the term have the sorts of their places.
+#[cycle(is_sorted)]
+pub fn is_sorted(term: &Term) -> bool
+    ensures { result ≡ plain.term_sorted (term_view term.now) }
+{
+    match term {
+        Term::Number(_) | Term::Boolean(_) | Term::NullTerm => true,
+        Term::ProgramVariable(_) | Term::Constant(_) | Term::Bound(_, _) => true,
+        Term::NamedField(_) | Term::CreatedField => true,
+        Term::Arithmetic(_, a, b) => has_sort(Sort::Int, a)
+            && is_sorted(a)
+            && has_sort(Sort::Int, b)
+            && is_sorted(b),
+        Term::Negation(a) | Term::Wrap(a) | Term::ElementField(a) => has_sort(Sort::Int, a)
+            && is_sorted(a),
+        Term::Length(a) => has_sort(Sort::Ref, a) && is_sorted(a),
+        Term::Select(_, h, o, f) => has_sort(Sort::Heap, h)
+            && is_sorted(h)
+            && has_sort(Sort::Ref, o)
+            && is_sorted(o)
+            && has_sort(Sort::Field, f)
+            && is_sorted(f),
+        Term::Sum(a, b, c) => has_sort(Sort::Int, a)
+            && is_sorted(a)
+            && has_sort(Sort::Int, b)
+            && is_sorted(b)
+            && has_sort(Sort::Int, c)
+            && is_sorted(c),
+        Term::Store(h, o, f, a) => has_sort(Sort::Heap, h)
+            && is_sorted(h)
+            && has_sort(Sort::Ref, o)
+            && is_sorted(o)
+            && has_sort(Sort::Field, f)
+            && is_sorted(f)
+            && is_value(sort_of(a))
+            && is_sorted(a),
+        Term::Create(h, o) => has_sort(Sort::Heap, h)
+            && is_sorted(h)
+            && has_sort(Sort::Ref, o)
+            && is_sorted(o),
+        Term::Anon(h, l, g) => has_sort(Sort::Heap, h)
+            && is_sorted(h)
+            && is_sorted_loc(l)
+            && has_sort(Sort::Heap, g)
+            && is_sorted(g),
+    }
+}
+
+/// The same of a location set.
+#[cycle(is_sorted)]
+pub fn is_sorted_loc(loc: &Loc) -> bool
+    ensures { result ≡ plain.loc_sorted (loc_view loc.now) }
+{
+    match loc {
+        Loc::NoLocations | Loc::AllLocations => true,
+        Loc::Single(o, f) => has_sort(Sort::Ref, o)
+            && is_sorted(o)
+            && has_sort(Sort::Field, f)
+            && is_sorted(f),
+        Loc::ObjectFields(o) | Loc::ArrayElements(o) => has_sort(Sort::Ref, o) && is_sorted(o),
+        Loc::ElementRange(o, a, b) => has_sort(Sort::Ref, o)
+            && is_sorted(o)
+            && has_sort(Sort::Int, a)
+            && is_sorted(a)
+            && has_sort(Sort::Int, b)
+            && is_sorted(b),
+        Loc::Union(l, m) => is_sorted_loc(l) && is_sorted_loc(m),
+    }
+}

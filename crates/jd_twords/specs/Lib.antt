@@ -1,0 +1,4 @@
+pub mod Beside
+pub mod Numbers
+pub mod Places
+pub mod TestNames
