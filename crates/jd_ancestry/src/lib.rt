@@ -4,8 +4,6 @@
 mod cycles;
 mod numbering;
 mod order;
-#[cfg(test)]
-mod tests;
 mod walks;
 
 pub use cycles::first_above_itself;

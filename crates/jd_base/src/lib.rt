@@ -9,8 +9,6 @@ mod memory_sink;
 mod outside;
 mod real_files;
 mod sort;
-#[cfg(test)]
-mod tests;
 mod whole;
 
 pub use ids::{ClassId, FamilyId, FieldId, MethodId};

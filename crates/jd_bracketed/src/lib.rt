@@ -5,8 +5,6 @@ mod class;
 mod laws;
 mod reading;
 mod refusal;
-#[cfg(test)]
-mod tests;
 mod token;
 mod tokens;
 mod whole;

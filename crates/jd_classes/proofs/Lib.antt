@@ -6,4 +6,3 @@ mod Lineages
 mod Looking
 mod NoCycle
 mod Refusing
-mod SmallTrees

@@ -1,4 +1,3 @@
 pub mod Fields
 pub mod Refusals
 pub mod Tables
-pub mod Small

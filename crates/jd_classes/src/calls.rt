@@ -25,6 +25,27 @@ impl Classes {
         self.classes.len() as u32
     }
 
+    /// How many fields and constants there are.
+    pub fn field_count(&self) -> usize
+        ensures { result ≡ field_count_of self.now }
+    {
+        self.fields.len()
+    }
+
+    /// How many methods and constructors there are.
+    pub fn method_count(&self) -> usize
+        ensures { result ≡ method_count_of self.now }
+    {
+        self.methods.len()
+    }
+
+    /// How many families there are.
+    pub fn family_count(&self) -> u32
+        ensures { result ≡ family_count_of self.now }
+    {
+        self.families.count
+    }
+
     /// The class of this name, if there is one.
     pub fn class_named(&self, name: &[u8]) -> Option<ClassId>
         ensures named { (units : List JavaUnit) → AreTables units self.now

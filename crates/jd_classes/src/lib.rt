@@ -7,14 +7,8 @@ mod classes;
 mod fields;
 mod gather;
 mod limits;
-#[cfg(test)]
-mod programs;
 mod refusal;
-#[cfg(test)]
-mod small;
 mod standing;
-#[cfg(test)]
-mod tests;
 
 pub use classes::Classes;
 pub use jd_jinfos::{ClassInfo, FieldInfo, MethodInfo};

@@ -5,8 +5,6 @@ mod find;
 mod laws;
 mod numbering;
 mod roots;
-#[cfg(test)]
-mod tests;
 
 pub use find::components;
 pub use laws::components_are_one;

@@ -13,6 +13,3 @@ mod words;
 pub use bytes::Java;
 pub use reader::{one_program, read_program};
 pub use syntax::{Comparison, Condition, Operand, Program, Statement};
-
-#[cfg(test)]
-mod tests;

@@ -6,8 +6,6 @@ mod maker;
 mod names;
 mod parts;
 mod tables;
-#[cfg(test)]
-mod tests;
 
 pub use maker::{name_of, obligation};
 pub use tables::contracts;

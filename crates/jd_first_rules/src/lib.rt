@@ -10,8 +10,6 @@ mod rows;
 mod rules;
 mod set;
 mod step;
-#[cfg(test)]
-mod tests;
 
 pub use jd_first_steps::FirstRule;
 pub use rules::Kind;

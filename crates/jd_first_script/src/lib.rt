@@ -9,6 +9,3 @@ mod token;
 
 pub use file::{one_script, read_script};
 pub use script::Script;
-
-#[cfg(test)]
-mod tests;

@@ -6,8 +6,6 @@ mod find;
 mod items;
 mod order;
 mod places;
-#[cfg(test)]
-mod tests;
 mod walk;
 
 pub use find::first_disagreeing;

@@ -14,8 +14,6 @@ mod reading;
 mod settle;
 mod stack;
 mod terminals;
-#[cfg(test)]
-mod tests;
 mod want;
 
 pub use body::{ended_body, is_whole, start_body, step};

@@ -4,8 +4,6 @@
 mod called;
 mod expressions;
 mod statements;
-#[cfg(test)]
-mod tests;
 
 pub use called::Called;
 pub use statements::calls_of;

@@ -7,4 +7,3 @@ mod Reasons
 mod Refusing
 mod Repeating
 mod Seconds
-mod Testing

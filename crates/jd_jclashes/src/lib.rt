@@ -1,8 +1,6 @@
 //! The members of Java's classes that no program may have, of which the first is found.
 #![tactic(auto)]
 
-#[cfg(test)]
-mod agreeing;
 mod clash;
 mod compared;
 mod find;
@@ -10,8 +8,6 @@ mod items;
 mod numbers;
 mod reason;
 mod repeats;
-#[cfg(test)]
-mod tests;
 
 pub use clash::Clash;
 pub use find::first_clash;

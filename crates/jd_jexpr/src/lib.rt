@@ -11,13 +11,9 @@ mod named;
 mod operators;
 mod parts;
 mod reading;
-#[cfg(test)]
-mod reading_tests;
 mod reduce;
 mod stack;
 mod step;
-#[cfg(test)]
-mod tests;
 mod types;
 mod values;
 mod want;

@@ -4,4 +4,3 @@ mod More
 mod Nearest
 mod Orders
 mod Tying
-mod Worked

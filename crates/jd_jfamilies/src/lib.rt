@@ -3,7 +3,5 @@
 
 mod families;
 mod overridden;
-#[cfg(test)]
-mod tests;
 
 pub use families::{Families, families_of};

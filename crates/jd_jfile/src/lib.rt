@@ -9,8 +9,6 @@ mod parameters;
 mod reading;
 mod routines;
 mod terminals;
-#[cfg(test)]
-mod tests;
 
 pub use file::{finish, start, step};
 pub use reading::{

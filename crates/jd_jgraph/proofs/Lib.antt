@@ -8,4 +8,3 @@ pub mod Positions
 mod Reaching
 mod Routines
 mod Whole
-mod Worked

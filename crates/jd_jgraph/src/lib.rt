@@ -5,7 +5,5 @@ mod adding;
 mod callees;
 mod closed;
 mod named;
-#[cfg(test)]
-mod tests;
 
 pub use closed::family_graph;

@@ -8,8 +8,6 @@ mod parents;
 mod placed;
 mod reading;
 mod refusal;
-#[cfg(test)]
-mod tests;
 
 pub use heads::Heads;
 pub use reading::read_heads;

@@ -1,4 +1,3 @@
-pub mod Example
 pub mod Infos
 pub mod Stages
 pub mod Views

@@ -7,10 +7,6 @@ mod copies;
 mod info;
 mod members;
 mod own;
-#[cfg(test)]
-mod small;
-#[cfg(test)]
-mod tests;
 
 pub use classes::class_infos;
 pub use info::{ClassInfo, FieldInfo, MethodInfo, OwnMembers};

@@ -6,8 +6,6 @@ mod members;
 mod modifiers;
 mod parameters;
 mod routines;
-#[cfg(test)]
-mod tests;
 mod values;
 
 pub use classes::{add_class, no_classes};

@@ -5,8 +5,6 @@ mod agreement;
 mod encoding;
 mod numbering;
 mod numbers;
-#[cfg(test)]
-mod tests;
 
 pub use numbering::{member_names, member_returns, member_signatures};
 pub use numbers::Numbers;

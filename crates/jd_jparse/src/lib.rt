@@ -7,8 +7,6 @@ mod parse;
 mod places;
 mod refusal;
 mod run;
-#[cfg(test)]
-mod tests;
 mod turns;
 
 pub use laws::one_answer;

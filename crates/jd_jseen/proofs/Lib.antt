@@ -4,5 +4,4 @@ pub mod Nodes
 pub mod Routines
 mod Seeing
 mod Tables
-mod Worked
 mod Writing

@@ -4,8 +4,6 @@
 mod laws;
 mod own;
 mod seen;
-#[cfg(test)]
-mod tests;
 
 pub use laws::{numbers_of_classes, numbers_of_routines};
 pub use seen::{Seen, seen_of};

@@ -6,8 +6,6 @@ mod builders;
 mod declarations;
 mod forms;
 mod heads;
-#[cfg(test)]
-mod tests;
 mod values;
 
 pub use blocks::{add, handler, inner, no_handlers, no_statements, tried};

@@ -11,6 +11,3 @@ pub use placed::{Placed, terminals};
 pub use terminal::{Assignment, Count, Literal, Mark, Operator, Terminal};
 pub use unsupported::{first_unsupported, is_unsupported};
 pub use words::terminal_of;
-
-#[cfg(test)]
-mod tests;

@@ -14,6 +14,3 @@ mod token;
 pub use java::tokens;
 pub use laws::{one_answer, tokens_are_slices};
 pub use token::{LexRefusal, Token, TokenKind};
-
-#[cfg(test)]
-mod tests;

@@ -6,6 +6,3 @@ mod scan;
 
 pub use alphabet::{Alphabet, Class};
 pub use scan::{Lexeme, lexemes, one_lexing};
-
-#[cfg(test)]
-mod tests;

@@ -8,8 +8,6 @@ mod laws;
 mod places;
 mod put;
 mod sequent;
-#[cfg(test)]
-mod tests;
 
 pub use contracts::{BodyForm, CaseForm, Contracts, InvForm};
 pub use examples::{

@@ -5,8 +5,6 @@
 mod laws;
 mod order;
 mod rows;
-#[cfg(test)]
-mod tests;
 
 pub use laws::nearest_is_one;
 pub use rows::nearest_values;

@@ -5,8 +5,6 @@ mod code;
 mod formulas;
 mod names;
 mod terms;
-#[cfg(test)]
-mod tests;
 mod words;
 
 pub use formulas::print_formula;

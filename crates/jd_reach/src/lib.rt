@@ -7,7 +7,5 @@ mod group;
 mod rows;
 mod search;
 mod stack;
-#[cfg(test)]
-mod tests;
 
 pub use graph::Graph;

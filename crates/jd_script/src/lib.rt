@@ -10,8 +10,6 @@ mod proofs;
 mod refusal;
 mod stage;
 mod stop;
-#[cfg(test)]
-mod tests;
 mod turn;
 mod whole;
 

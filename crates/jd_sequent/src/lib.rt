@@ -7,8 +7,6 @@ mod limits;
 mod obligation;
 mod rule;
 mod script;
-#[cfg(test)]
-mod tests;
 
 pub use bad::Bad;
 pub use jd_model::{BodyForm, CaseForm, Contracts, InvForm, Node, Place, Sequent, Side};

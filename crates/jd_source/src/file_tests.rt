@@ -251,6 +251,25 @@ fn faults_of_the_text(rt: HostRuntime) -> Result<(), Fail> {
         ("class T { 2147483649 }", "BigLiteral at 10"),
         ("class T { /*@ # @*/ }", "BadByte at 14"),
         ("class T { double d; # }", "BadByte at 20"),
+        ("class T { 'a' }", "BadByte at 10"),
+        ("class T { \"s\" }", "BadByte at 10"),
+        ("// \\u0041", "BadByte at 3"),
+        ("// \\\\u0041 x\nclass T {}", "ok"),
+        ("/*/", "OpenComment at 0"),
+        ("/*@ a", "OpenComment at 0"),
+        ("class T { /***/ /*/ */ int x; // c # \n }", "ok"),
+        ("class T {\t\x0C\r\nint a$1_b; }", "ok"),
+        ("class T { //@ x /* y */ z // w ==\n int x; }", "ok"),
+        ("class T { //@ x \\\\old\n int x; }", "BadByte at 16"),
+        ("class T { /*@ x\n @@ y\n @ z @*/ int x; }", "ok"),
+        (
+            "class T { //@ 170141183460469231731687303715884105727\n int x; }",
+            "ok",
+        ),
+        (
+            "class T { //@ 170141183460469231731687303715884105728\n int x; }",
+            "BigLiteral at 14",
+        ),
     ] {
         let seen = answer(alloc, text)?;
         assert_eq!(rt; seen.as_str(), expected);

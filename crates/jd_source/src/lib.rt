@@ -12,7 +12,5 @@ mod printed;
 mod read;
 #[cfg(test)]
 mod statement_tests;
-#[cfg(test)]
-mod tests;
 
 pub use read::{SourceRefusal, one_source, read_source};

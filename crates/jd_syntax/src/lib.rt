@@ -9,8 +9,6 @@ mod mentions;
 mod size;
 mod spec;
 mod sx;
-#[cfg(test)]
-mod tests;
 mod variable;
 
 pub use code::{BinaryOp, Code, CodeExpr, CodeStmt, Kind, UnaryOp};

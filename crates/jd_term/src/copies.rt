@@ -23,19 +23,22 @@ pub fn copy(alloc: Global, f: &Formula) -> Result<Formula, NoMemory>
     f.copy(alloc)
 }
 
-pub(crate) fn boxed_term(alloc: Global, t: Term) -> Result<Box<Term>, NoMemory>
+/// The term in a box.
+pub fn boxed_term(alloc: Global, t: Term) -> Result<Box<Term>, NoMemory>
     ensures { IfOk result (λ b. b.value ≡ t) }
 {
     Ok(Box::new(alloc, t)?)
 }
 
-pub(crate) fn boxed_loc(alloc: Global, l: Loc) -> Result<Box<Loc>, NoMemory>
+/// The location set in a box.
+pub fn boxed_loc(alloc: Global, l: Loc) -> Result<Box<Loc>, NoMemory>
     ensures { IfOk result (λ b. b.value ≡ l) }
 {
     Ok(Box::new(alloc, l)?)
 }
 
-pub(crate) fn boxed_formula(alloc: Global, f: Formula) -> Result<Box<Formula>, NoMemory>
+/// The formula in a box.
+pub fn boxed_formula(alloc: Global, f: Formula) -> Result<Box<Formula>, NoMemory>
     ensures { IfOk result (λ b. b.value ≡ f) }
 {
     Ok(Box::new(alloc, f)?)

@@ -11,14 +11,15 @@ use crate::formula::{Elementary, Formula};
 use crate::term::{ConstId, Loc, Term};
 use jd_syntax::VarId;
 
-// `equals`, by its test.
-pub(crate) fn is_same(v: &VarId, w: &VarId) -> bool
+/// Whether both are one program variable, as [`VarId::equals`], told by its test.
+pub fn is_same(v: &VarId, w: &VarId) -> bool
     ensures { result ≡ same_name (var_view v.now) (var_view w.now) }
 {
     v.equals(w)
 }
 
-pub(crate) fn is_same_constant(c: &ConstId, d: &ConstId) -> bool
+/// Whether both are one constant, as [`ConstId::equals`], told by its test.
+pub fn is_same_constant(c: &ConstId, d: &ConstId) -> bool
     ensures { result ≡ same_name (const_view c.now) (const_view d.now) }
 {
     c.equals(d)

@@ -10,6 +10,3 @@ pub use answer::answer_term;
 pub use refusal::TermRefusal;
 pub use sorted::{has_sort, is_sorted, is_sorted_loc};
 pub use terms::{read_loc, read_term};
-
-#[cfg(test)]
-mod tests;

@@ -1,4 +1,3 @@
 pub mod Beside
 pub mod Numbers
 pub mod Places
-pub mod TestNames

@@ -14,6 +14,3 @@ pub use names::NameMeanings;
 pub use places::{Form, Place};
 pub use shapes::{is_name, is_word, label_of, literal_of, loop_of, sort_of_word};
 pub use words::{variable_told, word_expr, word_formula, word_loc, word_term};
-
-#[cfg(test)]
-mod tests;

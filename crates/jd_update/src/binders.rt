@@ -44,8 +44,9 @@ fn loc_has_no_sum(l: &Loc) -> bool
     }
 }
 
+/// Whether there is no bounded sum in the terms of the pairs.
 #[tactic(auto, using(jd_syntax::proofs::Lists::rest))]
-pub(crate) fn pairs_have_no_sum(pairs: &[Elementary]) -> bool
+pub fn pairs_have_no_sum(pairs: &[Elementary]) -> bool
     ensures { result ≡ pairs_have_no_sum (map pair_view pairs.now) }
 {
     for p in pairs {

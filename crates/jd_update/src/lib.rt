@@ -5,9 +5,7 @@ mod binders;
 mod pairs;
 mod push;
 mod replace;
-#[cfg(test)]
-mod tests;
 
-pub use binders::has_no_binder;
+pub use binders::{has_no_binder, pairs_have_no_sum};
 pub use push::{apply_update, drop_dead, simplify};
 pub use replace::{replace_loc, replace_term};

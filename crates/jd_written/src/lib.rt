@@ -2,8 +2,6 @@
 #![tactic(auto)]
 
 mod laws;
-#[cfg(test)]
-mod tests;
 mod written;
 
 pub use laws::{integers_are_words, read_back, written_in_parts};
