@@ -1,6 +1,7 @@
 //! Terms put for bound variables, and constants and program variables replaced by terms.
 #![tactic(auto)]
 
+mod both;
 mod renaming;
 mod substitution;
 

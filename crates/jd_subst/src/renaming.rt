@@ -5,6 +5,7 @@ ghost use Rattle.jd_term.specs.Renamings.{FirstOrder, IsRenaming, both_views, pu
 ghost use Rattle.jd_term.specs.TermViews.{loc_view, term_view};
 ghost use Rattle.std.specs.Prelude.{◌≡◌, IfOk, map};
 
+use crate::both::both;
 use jd_base::NoMemory;
 use jd_term::{
     Formula, Loc, Term, boxed_formula, boxed_loc, boxed_term, is_same, is_same_constant,
@@ -76,40 +77,51 @@ pub fn rename_term(alloc: Global, t: &Term, pairs: &[(Term, Term)]) -> Result<Te
         Term::NullTerm => Ok(Term::NullTerm),
         Term::ProgramVariable(_) | Term::Constant(_) => renamed_symbol(alloc, t, pairs),
         Term::Bound(k, s) => Ok(Term::Bound(*k, *s)),
-        Term::Arithmetic(o, a, b) => Ok(Term::Arithmetic(
-            *o,
-            rename_boxed(alloc, a, pairs)?,
-            rename_boxed(alloc, b, pairs)?,
-        )),
+        Term::Arithmetic(o, a, b) => {
+            let (a, b) = both(rename_boxed(alloc, a, pairs), rename_boxed(alloc, b, pairs))?;
+            Ok(Term::Arithmetic(*o, a, b))
+        }
         Term::Negation(a) => Ok(Term::Negation(rename_boxed(alloc, a, pairs)?)),
         Term::Wrap(a) => Ok(Term::Wrap(rename_boxed(alloc, a, pairs)?)),
         Term::Length(a) => Ok(Term::Length(rename_boxed(alloc, a, pairs)?)),
-        Term::Select(s, a, b, c) => Ok(Term::Select(
-            *s,
-            rename_boxed(alloc, a, pairs)?,
-            rename_boxed(alloc, b, pairs)?,
-            rename_boxed(alloc, c, pairs)?,
-        )),
-        Term::Sum(a, b, c) => Ok(Term::Sum(
-            rename_boxed(alloc, a, pairs)?,
-            rename_boxed(alloc, b, pairs)?,
-            rename_boxed(alloc, c, pairs)?,
-        )),
-        Term::Store(a, b, c, d) => Ok(Term::Store(
-            rename_boxed(alloc, a, pairs)?,
-            rename_boxed(alloc, b, pairs)?,
-            rename_boxed(alloc, c, pairs)?,
-            rename_boxed(alloc, d, pairs)?,
-        )),
-        Term::Create(a, b) => Ok(Term::Create(
-            rename_boxed(alloc, a, pairs)?,
-            rename_boxed(alloc, b, pairs)?,
-        )),
-        Term::Anon(a, l, b) => Ok(Term::Anon(
-            rename_boxed(alloc, a, pairs)?,
-            rename_boxed_loc(alloc, l, pairs)?,
-            rename_boxed(alloc, b, pairs)?,
-        )),
+        Term::Select(s, a, b, c) => {
+            let (a, (b, c)) = both(
+                rename_boxed(alloc, a, pairs),
+                both(rename_boxed(alloc, b, pairs), rename_boxed(alloc, c, pairs)),
+            )?;
+            Ok(Term::Select(*s, a, b, c))
+        }
+        Term::Sum(a, b, c) => {
+            let (a, (b, c)) = both(
+                rename_boxed(alloc, a, pairs),
+                both(rename_boxed(alloc, b, pairs), rename_boxed(alloc, c, pairs)),
+            )?;
+            Ok(Term::Sum(a, b, c))
+        }
+        Term::Store(a, b, c, d) => {
+            let (a, (b, (c, d))) = both(
+                rename_boxed(alloc, a, pairs),
+                both(
+                    rename_boxed(alloc, b, pairs),
+                    both(rename_boxed(alloc, c, pairs), rename_boxed(alloc, d, pairs)),
+                ),
+            )?;
+            Ok(Term::Store(a, b, c, d))
+        }
+        Term::Create(a, b) => {
+            let (a, b) = both(rename_boxed(alloc, a, pairs), rename_boxed(alloc, b, pairs))?;
+            Ok(Term::Create(a, b))
+        }
+        Term::Anon(a, l, b) => {
+            let (a, (l, b)) = both(
+                rename_boxed(alloc, a, pairs),
+                both(
+                    rename_boxed_loc(alloc, l, pairs),
+                    rename_boxed(alloc, b, pairs),
+                ),
+            )?;
+            Ok(Term::Anon(a, l, b))
+        }
         Term::NamedField(f) => Ok(Term::NamedField(*f)),
         Term::CreatedField => Ok(Term::CreatedField),
         Term::ElementField(a) => Ok(Term::ElementField(rename_boxed(alloc, a, pairs)?)),
@@ -125,21 +137,26 @@ pub fn rename_loc(alloc: Global, l: &Loc, pairs: &[(Term, Term)]) -> Result<Loc,
     match l {
         Loc::NoLocations => Ok(Loc::NoLocations),
         Loc::AllLocations => Ok(Loc::AllLocations),
-        Loc::Single(a, b) => Ok(Loc::Single(
-            rename_boxed(alloc, a, pairs)?,
-            rename_boxed(alloc, b, pairs)?,
-        )),
+        Loc::Single(a, b) => {
+            let (a, b) = both(rename_boxed(alloc, a, pairs), rename_boxed(alloc, b, pairs))?;
+            Ok(Loc::Single(a, b))
+        }
         Loc::ObjectFields(a) => Ok(Loc::ObjectFields(rename_boxed(alloc, a, pairs)?)),
         Loc::ArrayElements(a) => Ok(Loc::ArrayElements(rename_boxed(alloc, a, pairs)?)),
-        Loc::ElementRange(a, b, c) => Ok(Loc::ElementRange(
-            rename_boxed(alloc, a, pairs)?,
-            rename_boxed(alloc, b, pairs)?,
-            rename_boxed(alloc, c, pairs)?,
-        )),
-        Loc::Union(l, m) => Ok(Loc::Union(
-            rename_boxed_loc(alloc, l, pairs)?,
-            rename_boxed_loc(alloc, m, pairs)?,
-        )),
+        Loc::ElementRange(a, b, c) => {
+            let (a, (b, c)) = both(
+                rename_boxed(alloc, a, pairs),
+                both(rename_boxed(alloc, b, pairs), rename_boxed(alloc, c, pairs)),
+            )?;
+            Ok(Loc::ElementRange(a, b, c))
+        }
+        Loc::Union(l, m) => {
+            let (l, m) = both(
+                rename_boxed_loc(alloc, l, pairs),
+                rename_boxed_loc(alloc, m, pairs),
+            )?;
+            Ok(Loc::Union(l, m))
+        }
     }
 }
 
@@ -168,48 +185,62 @@ pub fn rename(alloc: Global, f: &Formula, pairs: &[(Term, Term)]) -> Result<Form
         Formula::TrueFormula => Ok(Formula::TrueFormula),
         Formula::FalseFormula => Ok(Formula::FalseFormula),
         Formula::Not(a) => Ok(Formula::Not(rename_boxed_formula(alloc, a, pairs)?)),
-        Formula::And(a, b) => Ok(Formula::And(
-            rename_boxed_formula(alloc, a, pairs)?,
-            rename_boxed_formula(alloc, b, pairs)?,
-        )),
-        Formula::Or(a, b) => Ok(Formula::Or(
-            rename_boxed_formula(alloc, a, pairs)?,
-            rename_boxed_formula(alloc, b, pairs)?,
-        )),
-        Formula::Implies(a, b) => Ok(Formula::Implies(
-            rename_boxed_formula(alloc, a, pairs)?,
-            rename_boxed_formula(alloc, b, pairs)?,
-        )),
-        Formula::Iff(a, b) => Ok(Formula::Iff(
-            rename_boxed_formula(alloc, a, pairs)?,
-            rename_boxed_formula(alloc, b, pairs)?,
-        )),
-        Formula::Equal(a, b) => Ok(Formula::Equal(
-            rename_term(alloc, a, pairs)?,
-            rename_term(alloc, b, pairs)?,
-        )),
-        Formula::Less(a, b) => Ok(Formula::Less(
-            rename_term(alloc, a, pairs)?,
-            rename_term(alloc, b, pairs)?,
-        )),
-        Formula::LessOrEqual(a, b) => Ok(Formula::LessOrEqual(
-            rename_term(alloc, a, pairs)?,
-            rename_term(alloc, b, pairs)?,
-        )),
+        Formula::And(a, b) => {
+            let (a, b) = both(
+                rename_boxed_formula(alloc, a, pairs),
+                rename_boxed_formula(alloc, b, pairs),
+            )?;
+            Ok(Formula::And(a, b))
+        }
+        Formula::Or(a, b) => {
+            let (a, b) = both(
+                rename_boxed_formula(alloc, a, pairs),
+                rename_boxed_formula(alloc, b, pairs),
+            )?;
+            Ok(Formula::Or(a, b))
+        }
+        Formula::Implies(a, b) => {
+            let (a, b) = both(
+                rename_boxed_formula(alloc, a, pairs),
+                rename_boxed_formula(alloc, b, pairs),
+            )?;
+            Ok(Formula::Implies(a, b))
+        }
+        Formula::Iff(a, b) => {
+            let (a, b) = both(
+                rename_boxed_formula(alloc, a, pairs),
+                rename_boxed_formula(alloc, b, pairs),
+            )?;
+            Ok(Formula::Iff(a, b))
+        }
+        Formula::Equal(a, b) => {
+            let (a, b) = both(rename_term(alloc, a, pairs), rename_term(alloc, b, pairs))?;
+            Ok(Formula::Equal(a, b))
+        }
+        Formula::Less(a, b) => {
+            let (a, b) = both(rename_term(alloc, a, pairs), rename_term(alloc, b, pairs))?;
+            Ok(Formula::Less(a, b))
+        }
+        Formula::LessOrEqual(a, b) => {
+            let (a, b) = both(rename_term(alloc, a, pairs), rename_term(alloc, b, pairs))?;
+            Ok(Formula::LessOrEqual(a, b))
+        }
         Formula::Forall(s, a) => Ok(Formula::Forall(*s, rename_boxed_formula(alloc, a, pairs)?)),
         Formula::Exists(s, a) => Ok(Formula::Exists(*s, rename_boxed_formula(alloc, a, pairs)?)),
         Formula::Updated(_, _) | Formula::Modal(_, _, _) => f.copy(alloc),
-        Formula::InLocations(a, b, l) => Ok(Formula::InLocations(
-            rename_term(alloc, a, pairs)?,
-            rename_term(alloc, b, pairs)?,
-            rename_loc(alloc, l, pairs)?,
-        )),
+        Formula::InLocations(a, b, l) => {
+            let (a, (b, l)) = both(
+                rename_term(alloc, a, pairs),
+                both(rename_term(alloc, b, pairs), rename_loc(alloc, l, pairs)),
+            )?;
+            Ok(Formula::InLocations(a, b, l))
+        }
         Formula::InInt(a) => Ok(Formula::InInt(rename_term(alloc, a, pairs)?)),
         Formula::WellFormed(a) => Ok(Formula::WellFormed(rename_term(alloc, a, pairs)?)),
-        Formula::Invariant(a, b) => Ok(Formula::Invariant(
-            rename_term(alloc, a, pairs)?,
-            rename_term(alloc, b, pairs)?,
-        )),
+        Formula::Invariant(a, b) => {
+            let (a, b) = both(rename_term(alloc, a, pairs), rename_term(alloc, b, pairs))?;
+            Ok(Formula::Invariant(a, b))
+        }
         Formula::IsInstance(k, a) => Ok(Formula::IsInstance(*k, rename_term(alloc, a, pairs)?)),
         Formula::IsExactInstance(k, a) => Ok(Formula::IsExactInstance(
             *k,

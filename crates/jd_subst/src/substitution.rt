@@ -7,6 +7,7 @@ ghost use Rattle.jd_term.specs.Terms.{sort_of_term};
 ghost use Rattle.jd_term.specs.TermViews.{loc_view, term_view};
 ghost use Rattle.std.specs.Prelude.{◌≡◌, ◌+◌, ◌<◌, ◌^◌, IfOk, map};
 
+use crate::both::both;
 use jd_base::{NoMemory, Sort};
 use jd_term::{
     Elementary, Formula, Loc, Term, Update, boxed_formula, boxed_loc, boxed_term, shift_term,
@@ -88,40 +89,66 @@ fn subst_term_below(
         Term::ProgramVariable(x) => Ok(Term::ProgramVariable(x.copy(alloc)?)),
         Term::Constant(c) => Ok(Term::Constant(c.copy(alloc)?)),
         Term::Bound(k, sort) => subst_index(alloc, *k, *sort, depth, index, t),
-        Term::Arithmetic(o, a, b) => Ok(Term::Arithmetic(
-            *o,
-            subst_boxed(alloc, a, depth, index, t)?,
-            subst_boxed(alloc, b, depth, index, t)?,
-        )),
+        Term::Arithmetic(o, a, b) => {
+            let (a, b) = both(
+                subst_boxed(alloc, a, depth, index, t),
+                subst_boxed(alloc, b, depth, index, t),
+            )?;
+            Ok(Term::Arithmetic(*o, a, b))
+        }
         Term::Negation(a) => Ok(Term::Negation(subst_boxed(alloc, a, depth, index, t)?)),
         Term::Wrap(a) => Ok(Term::Wrap(subst_boxed(alloc, a, depth, index, t)?)),
         Term::Length(a) => Ok(Term::Length(subst_boxed(alloc, a, depth, index, t)?)),
-        Term::Select(k, a, b, c) => Ok(Term::Select(
-            *k,
-            subst_boxed(alloc, a, depth, index, t)?,
-            subst_boxed(alloc, b, depth, index, t)?,
-            subst_boxed(alloc, c, depth, index, t)?,
-        )),
-        Term::Sum(a, b, c) => Ok(Term::Sum(
-            subst_boxed(alloc, a, depth, index, t)?,
-            subst_boxed(alloc, b, depth, index, t)?,
-            subst_boxed(alloc, c, depth + 1, index, t)?,
-        )),
-        Term::Store(a, b, c, d) => Ok(Term::Store(
-            subst_boxed(alloc, a, depth, index, t)?,
-            subst_boxed(alloc, b, depth, index, t)?,
-            subst_boxed(alloc, c, depth, index, t)?,
-            subst_boxed(alloc, d, depth, index, t)?,
-        )),
-        Term::Create(a, b) => Ok(Term::Create(
-            subst_boxed(alloc, a, depth, index, t)?,
-            subst_boxed(alloc, b, depth, index, t)?,
-        )),
-        Term::Anon(a, l, b) => Ok(Term::Anon(
-            subst_boxed(alloc, a, depth, index, t)?,
-            subst_boxed_loc(alloc, l, depth, index, t)?,
-            subst_boxed(alloc, b, depth, index, t)?,
-        )),
+        Term::Select(k, a, b, c) => {
+            let (a, (b, c)) = both(
+                subst_boxed(alloc, a, depth, index, t),
+                both(
+                    subst_boxed(alloc, b, depth, index, t),
+                    subst_boxed(alloc, c, depth, index, t),
+                ),
+            )?;
+            Ok(Term::Select(*k, a, b, c))
+        }
+        Term::Sum(a, b, c) => {
+            let (a, (b, c)) = both(
+                subst_boxed(alloc, a, depth, index, t),
+                both(
+                    subst_boxed(alloc, b, depth, index, t),
+                    subst_boxed(alloc, c, depth + 1, index, t),
+                ),
+            )?;
+            Ok(Term::Sum(a, b, c))
+        }
+        Term::Store(a, b, c, d) => {
+            let (a, (b, (c, d))) = both(
+                subst_boxed(alloc, a, depth, index, t),
+                both(
+                    subst_boxed(alloc, b, depth, index, t),
+                    both(
+                        subst_boxed(alloc, c, depth, index, t),
+                        subst_boxed(alloc, d, depth, index, t),
+                    ),
+                ),
+            )?;
+            Ok(Term::Store(a, b, c, d))
+        }
+        Term::Create(a, b) => {
+            let (a, b) = both(
+                subst_boxed(alloc, a, depth, index, t),
+                subst_boxed(alloc, b, depth, index, t),
+            )?;
+            Ok(Term::Create(a, b))
+        }
+        Term::Anon(a, l, b) => {
+            let (a, (l, b)) = both(
+                subst_boxed(alloc, a, depth, index, t),
+                both(
+                    subst_boxed_loc(alloc, l, depth, index, t),
+                    subst_boxed(alloc, b, depth, index, t),
+                ),
+            )?;
+            Ok(Term::Anon(a, l, b))
+        }
         Term::NamedField(f) => Ok(Term::NamedField(*f)),
         Term::CreatedField => Ok(Term::CreatedField),
         Term::ElementField(a) => Ok(Term::ElementField(subst_boxed(alloc, a, depth, index, t)?)),
@@ -143,21 +170,32 @@ fn subst_loc_below(
     match l {
         Loc::NoLocations => Ok(Loc::NoLocations),
         Loc::AllLocations => Ok(Loc::AllLocations),
-        Loc::Single(a, b) => Ok(Loc::Single(
-            subst_boxed(alloc, a, depth, index, t)?,
-            subst_boxed(alloc, b, depth, index, t)?,
-        )),
+        Loc::Single(a, b) => {
+            let (a, b) = both(
+                subst_boxed(alloc, a, depth, index, t),
+                subst_boxed(alloc, b, depth, index, t),
+            )?;
+            Ok(Loc::Single(a, b))
+        }
         Loc::ObjectFields(a) => Ok(Loc::ObjectFields(subst_boxed(alloc, a, depth, index, t)?)),
         Loc::ArrayElements(a) => Ok(Loc::ArrayElements(subst_boxed(alloc, a, depth, index, t)?)),
-        Loc::ElementRange(a, b, c) => Ok(Loc::ElementRange(
-            subst_boxed(alloc, a, depth, index, t)?,
-            subst_boxed(alloc, b, depth, index, t)?,
-            subst_boxed(alloc, c, depth, index, t)?,
-        )),
-        Loc::Union(l, m) => Ok(Loc::Union(
-            subst_boxed_loc(alloc, l, depth, index, t)?,
-            subst_boxed_loc(alloc, m, depth, index, t)?,
-        )),
+        Loc::ElementRange(a, b, c) => {
+            let (a, (b, c)) = both(
+                subst_boxed(alloc, a, depth, index, t),
+                both(
+                    subst_boxed(alloc, b, depth, index, t),
+                    subst_boxed(alloc, c, depth, index, t),
+                ),
+            )?;
+            Ok(Loc::ElementRange(a, b, c))
+        }
+        Loc::Union(l, m) => {
+            let (l, m) = both(
+                subst_boxed_loc(alloc, l, depth, index, t),
+                subst_boxed_loc(alloc, m, depth, index, t),
+            )?;
+            Ok(Loc::Union(l, m))
+        }
     }
 }
 
@@ -213,34 +251,55 @@ fn subst_below(
         Formula::TrueFormula => Ok(Formula::TrueFormula),
         Formula::FalseFormula => Ok(Formula::FalseFormula),
         Formula::Not(a) => Ok(Formula::Not(subst_boxed_formula(alloc, a, depth, index, t)?)),
-        Formula::And(a, b) => Ok(Formula::And(
-            subst_boxed_formula(alloc, a, depth, index, t)?,
-            subst_boxed_formula(alloc, b, depth, index, t)?,
-        )),
-        Formula::Or(a, b) => Ok(Formula::Or(
-            subst_boxed_formula(alloc, a, depth, index, t)?,
-            subst_boxed_formula(alloc, b, depth, index, t)?,
-        )),
-        Formula::Implies(a, b) => Ok(Formula::Implies(
-            subst_boxed_formula(alloc, a, depth, index, t)?,
-            subst_boxed_formula(alloc, b, depth, index, t)?,
-        )),
-        Formula::Iff(a, b) => Ok(Formula::Iff(
-            subst_boxed_formula(alloc, a, depth, index, t)?,
-            subst_boxed_formula(alloc, b, depth, index, t)?,
-        )),
-        Formula::Equal(a, b) => Ok(Formula::Equal(
-            subst_term_below(alloc, a, depth, index, t)?,
-            subst_term_below(alloc, b, depth, index, t)?,
-        )),
-        Formula::Less(a, b) => Ok(Formula::Less(
-            subst_term_below(alloc, a, depth, index, t)?,
-            subst_term_below(alloc, b, depth, index, t)?,
-        )),
-        Formula::LessOrEqual(a, b) => Ok(Formula::LessOrEqual(
-            subst_term_below(alloc, a, depth, index, t)?,
-            subst_term_below(alloc, b, depth, index, t)?,
-        )),
+        Formula::And(a, b) => {
+            let (a, b) = both(
+                subst_boxed_formula(alloc, a, depth, index, t),
+                subst_boxed_formula(alloc, b, depth, index, t),
+            )?;
+            Ok(Formula::And(a, b))
+        }
+        Formula::Or(a, b) => {
+            let (a, b) = both(
+                subst_boxed_formula(alloc, a, depth, index, t),
+                subst_boxed_formula(alloc, b, depth, index, t),
+            )?;
+            Ok(Formula::Or(a, b))
+        }
+        Formula::Implies(a, b) => {
+            let (a, b) = both(
+                subst_boxed_formula(alloc, a, depth, index, t),
+                subst_boxed_formula(alloc, b, depth, index, t),
+            )?;
+            Ok(Formula::Implies(a, b))
+        }
+        Formula::Iff(a, b) => {
+            let (a, b) = both(
+                subst_boxed_formula(alloc, a, depth, index, t),
+                subst_boxed_formula(alloc, b, depth, index, t),
+            )?;
+            Ok(Formula::Iff(a, b))
+        }
+        Formula::Equal(a, b) => {
+            let (a, b) = both(
+                subst_term_below(alloc, a, depth, index, t),
+                subst_term_below(alloc, b, depth, index, t),
+            )?;
+            Ok(Formula::Equal(a, b))
+        }
+        Formula::Less(a, b) => {
+            let (a, b) = both(
+                subst_term_below(alloc, a, depth, index, t),
+                subst_term_below(alloc, b, depth, index, t),
+            )?;
+            Ok(Formula::Less(a, b))
+        }
+        Formula::LessOrEqual(a, b) => {
+            let (a, b) = both(
+                subst_term_below(alloc, a, depth, index, t),
+                subst_term_below(alloc, b, depth, index, t),
+            )?;
+            Ok(Formula::LessOrEqual(a, b))
+        }
         Formula::Forall(s, a) => Ok(Formula::Forall(
             *s,
             subst_boxed_formula(alloc, a, depth + 1, index, t)?,
@@ -250,30 +309,40 @@ fn subst_below(
             subst_boxed_formula(alloc, a, depth + 1, index, t)?,
         )),
         Formula::Updated(u, a) => {
-            let pairs = subst_pairs(alloc, &u.pairs, depth, index, t)?;
-            Ok(Formula::Updated(
-                Update { pairs },
-                subst_boxed_formula(alloc, a, depth, index, t)?,
-            ))
+            let (pairs, a) = both(
+                subst_pairs(alloc, &u.pairs, depth, index, t),
+                subst_boxed_formula(alloc, a, depth, index, t),
+            )?;
+            Ok(Formula::Updated(Update { pairs }, a))
         }
-        Formula::Modal(m, c, a) => Ok(Formula::Modal(
-            *m,
-            c.copy(alloc)?,
-            subst_boxed_formula(alloc, a, depth, index, t)?,
-        )),
-        Formula::InLocations(a, b, l) => Ok(Formula::InLocations(
-            subst_term_below(alloc, a, depth, index, t)?,
-            subst_term_below(alloc, b, depth, index, t)?,
-            subst_loc_below(alloc, l, depth, index, t)?,
-        )),
+        Formula::Modal(m, c, a) => {
+            let (c, a) = both(
+                c.copy(alloc),
+                subst_boxed_formula(alloc, a, depth, index, t),
+            )?;
+            Ok(Formula::Modal(*m, c, a))
+        }
+        Formula::InLocations(a, b, l) => {
+            let (a, (b, l)) = both(
+                subst_term_below(alloc, a, depth, index, t),
+                both(
+                    subst_term_below(alloc, b, depth, index, t),
+                    subst_loc_below(alloc, l, depth, index, t),
+                ),
+            )?;
+            Ok(Formula::InLocations(a, b, l))
+        }
         Formula::InInt(a) => Ok(Formula::InInt(subst_term_below(alloc, a, depth, index, t)?)),
         Formula::WellFormed(a) => Ok(Formula::WellFormed(subst_term_below(
             alloc, a, depth, index, t,
         )?)),
-        Formula::Invariant(a, b) => Ok(Formula::Invariant(
-            subst_term_below(alloc, a, depth, index, t)?,
-            subst_term_below(alloc, b, depth, index, t)?,
-        )),
+        Formula::Invariant(a, b) => {
+            let (a, b) = both(
+                subst_term_below(alloc, a, depth, index, t),
+                subst_term_below(alloc, b, depth, index, t),
+            )?;
+            Ok(Formula::Invariant(a, b))
+        }
         Formula::IsInstance(k, a) => Ok(Formula::IsInstance(
             *k,
             subst_term_below(alloc, a, depth, index, t)?,

@@ -9,10 +9,14 @@ use jd_term::{ArithmeticOp, ConstId, Formula, Loc, Term, boxed_formula, boxed_te
 use std::alloc::Global;
 use std::test::Fail;
 
-fn x(alloc: Global) -> Result<Term, NoMemory> {
+fn variable(alloc: Global) -> Result<VarId, NoMemory> {
     let name = copy_bytes(alloc, b"x")?;
     let sort = Sort::Int;
-    Ok(Term::ProgramVariable(VarId { name, sort }))
+    Ok(VarId { name, sort })
+}
+
+fn x(alloc: Global) -> Result<Term, NoMemory> {
+    Ok(Term::ProgramVariable(variable(alloc)?))
 }
 
 fn constant(alloc: Global) -> Result<Term, NoMemory> {
@@ -29,7 +33,8 @@ fn bound(k: u32) -> Term {
 #[test]
 fn numbers_are_put_for_indices(rt: HostRuntime) -> Result<(), Fail> {
     let alloc = rt.alloc();
-    let formula = Formula::LessOrEqual(Term::Bound(0, Sort::Int), x(alloc)?);
+    let variable = Term::ProgramVariable(variable(alloc)?);
+    let formula = Formula::LessOrEqual(Term::Bound(0, Sort::Int), variable);
     let seven = Term::Number(7);
     let put = subst(alloc, &formula, 0, &seven)?;
     assert!(rt; put.equals(&Formula::LessOrEqual(Term::Number(7), x(alloc)?)));

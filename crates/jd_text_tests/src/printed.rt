@@ -1,7 +1,9 @@
 ghost use Rattle.jd_tgrammar.specs.Examples.{table as example_table};
 
 use jd_base::{ClassId, FieldId, MethodId, NoMemory, Sort};
+use jd_model::Sequent;
 use jd_print::{NameTexts, print_formula, print_term};
+use jd_sequent_print::print_sequent;
 use jd_syntax::{Code, CodeExpr, CodeStmt, Kind, VarId};
 use jd_term::{ArithmeticOp, Elementary, Formula, Modality, Term, Update};
 use std::alloc::Global;
@@ -106,5 +108,26 @@ fn formulas_are_printed(rt: HostRuntime) -> Result<(), Fail> {
     let expected =
         b"(forall Int (upd ((x %0) (x %0)) (dia ((eval (scall C.s))) (exact int[] null))))";
     assert_eq!(rt; text.as_slice(), expected.as_slice());
+    Ok(())
+}
+
+// `x`
+fn x(alloc: Global) -> Result<Term, NoMemory> {
+    Ok(Term::ProgramVariable(variable(alloc, b"x", Sort::Int)?))
+}
+
+#[test]
+fn sequents_are_printed(rt: HostRuntime) -> Result<(), Fail> {
+    let alloc = rt.alloc();
+    let mut left = Vec::new(alloc);
+    left.push(Formula::InInt(x(alloc)?))?;
+    left.push(Formula::FalseFormula)?;
+    let mut right = Vec::new(alloc);
+    right.push(Formula::Less(Term::Number(-1), x(alloc)?))?;
+    let text = print_sequent(alloc, &Sequent { left, right }, &Example)?;
+    assert_eq!(rt;
+        text.as_slice(),
+        b"L1 (inInt x)\nL2 false\nR1 (lt -1 x)\n".as_slice()
+    );
     Ok(())
 }

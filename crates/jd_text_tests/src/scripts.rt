@@ -1,6 +1,7 @@
 use crate::shown::push_text;
 use jd_model::{Place, Side};
 use jd_script::{Proof, ScriptRefusal, parse_script};
+use jd_script_print::{print_script, printed_is_read};
 use jd_sequent::{ScriptNode, Step};
 use jd_syntax::Sx;
 use std::alloc::Global;
@@ -197,5 +198,38 @@ fn steps_are_limited(rt: HostRuntime) -> Result<(), Fail> {
         let seen = count_nodes(alloc, &text)?;
         assert_eq!(rt; seen.as_str(), expected);
     }
+    Ok(())
+}
+
+// the text of the proofs that a text is
+fn printed(alloc: Global, text: &[u8]) -> Result<Vec<u8>, Fail> {
+    if text.len() > 4_294_967_295 {
+        return Err(Fail::new("the text is too long"));
+    }
+    match parse_script(alloc, text) {
+        Ok(proofs) => Ok(print_script(alloc, &proofs)?),
+        Err(_) => Err(Fail::from("no script")),
+    }
+}
+
+#[test]
+fn scripts_are_printed(rt: HostRuntime) -> Result<(), Fail> {
+    let alloc = rt.alloc();
+    for (text, expected) in [
+        (b" ( jdl 1 ) ; none".as_slice(), b"(jdl 1)".as_slice()),
+        (b"(jdl 1(proof T::id#1 - ))", b"(jdl 1 (proof T::id#1 -))"),
+        (
+            b"(jdl 1 ; two\n(proof m#1 (cut L2.1.3[R1 -][(f x)(g(a(b)))] -(close -[][])))(proof n -))",
+            b"(jdl 1 (proof m#1 (cut L2.1.3 [R1 -] [(f x) (g (a (b)))] - (close - [] []))) (proof n -))",
+        ),
+        (
+            b"(jdl 1 (proof a (r - [] [] (r - [] [] (r - [] []) (r - [] [])) (r - [] [] (r - [] [] -) -))))",
+            b"(jdl 1 (proof a (r - [] [] (r - [] [] (r - [] []) (r - [] [])) (r - [] [] (r - [] [] -) -))))",
+        ),
+    ] {
+        let seen = printed(alloc, text)?;
+        assert_eq!(rt; seen.as_slice(), expected);
+    }
+    printed_is_read();
     Ok(())
 }

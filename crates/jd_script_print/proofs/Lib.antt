@@ -1,0 +1,6 @@
+mod Decimals
+mod Forests
+mod Parts
+mod TreeText
+mod FileText
+mod Readback
