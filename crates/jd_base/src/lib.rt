@@ -12,7 +12,7 @@ mod sort;
 mod whole;
 
 pub use ids::{ClassId, FamilyId, FieldId, MethodId};
-pub use memory::{NoMemory, copy_bytes};
+pub use memory::{NoMemory, both, copy_bytes};
 pub use memory_files::MemoryLibrary;
 pub use memory_sink::MemorySink;
 pub use outside::{Failed, Library, Sink};

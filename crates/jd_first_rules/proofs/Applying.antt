@@ -20,7 +20,7 @@ use Rattle.jd_first_rules.specs.Goals.{goal_view}
 use Rattle.jd_first_rules.specs.Steps.{kind_of}
 use Rattle.jd_first_rules.specs.StepKinds.{IsOfKind, to_step}
 use Rattle.jd_first_rules.specs.Causes.{whole_side, IsOn, IsNotTaken}
-use Rattle.jd_first_rules.specs.Results.{IsAt, IsMade, made_premises, AssumesRightly}
+use Rattle.jd_first_rules.specs.Results.{IsAt, IsMade, made_premises, AssumesRightly, IsTaken}
 use Rattle.jd_first_rules.specs.Places.{no_some, formula_same, some_same}
 use Rattle.jd_first_rules.specs.NoCause.{row_side, row_not_close, rewrite_not_close}
 
@@ -98,9 +98,12 @@ step_of Anywhere (Instead after) rule s p place a kind at made right =
     }
 step_of k m rule s p place a kind at made right = absurd made
 
-pub instance_is : (rule : FirstRule) (s : PlainSequent) (p : PlainStep) (place : PlainPlace) (a : PlainFormula) (m : Made) (ps : List PlainSequent) → p.rule ≡ rule_name rule → IsAt rule s p place a → IsMade (kind_of rule) rule place.side a m → p.insts ≡ [] → AssumesRightly rule s p.assumes a → ps ≡ made_premises s place m → IsInstance s p ps
+instance_is : (rule : FirstRule) (s : PlainSequent) (p : PlainStep) (place : PlainPlace) (a : PlainFormula) (m : Made) (ps : List PlainSequent) → p.rule ≡ rule_name rule → IsAt rule s p place a → IsMade (kind_of rule) rule place.side a m → p.insts ≡ [] → AssumesRightly rule s p.assumes a → ps ≡ made_premises s place m → IsInstance s p ps
 instance_is rule s p place a m ps named at made insts right e =
     subst (IsInstance s p) (sym e) (record { rule = rule; named = named; insts = insts; step = to_step (kind_of rule) rule s p (made_premises s place m) (step_of (kind_of rule) m rule s p place a refl at made right) })
+
+pub taken_is_instance : (rule : FirstRule) (s : PlainSequent) (p : PlainStep) (place : PlainPlace) (m : Made) (ps : List PlainSequent) → p.rule ≡ rule_name rule → IsTaken rule s p place m → ps ≡ made_premises s place m → IsInstance s p ps
+taken_is_instance rule s p place m ps named taken e = instance_is rule s p place taken.formula m ps named taken.at_it taken.is_made taken.no_insts taken.rightly e
 
 -- what is made is taken
 pub made_taken : (k : Kind) (m : Made) (rule : FirstRule) (side : Side) (a : PlainFormula) → IsMade k rule side a m → IsNotTaken k rule side a → ⊥

@@ -1,18 +1,17 @@
 -- Formulas in place of one.
-use Rattle.std.proofs.Common.{◌≡◌, ℕ, zero, suc, ◌+◌, ◌<◌, List, [], ◌∷◌, ◌++◌, length, map, take, drop, refl, sym, ap, ◌∙◌, arith, add-one, append_assoc}
+use Rattle.std.proofs.Common.{◌≡◌, ℕ, zero, suc, ◌+◌, ◌<◌, List, [], ◌∷◌, ◌++◌, length, map, take, drop, sym, ap, subst, ◌∙◌, arith, add-one}
+use Rattle.std.proofs.lemmas.List.{map-append}
 use Rattle.jd_term.specs.declared.formula.Formula.{Formula}
-use Rattle.jd_term.specs.Formulas.{PlainFormula, formula_view}
+use Rattle.jd_term.specs.Formulas.{formula_view}
 use Rattle.jd_first_steps.specs.Rows.{with_instead}
 
-instead_parts : (fs : List Formula) (k : ℕ) (new : List PlainFormula) → k < length fs → with_instead (map formula_view fs) (suc k) new ≡ map formula_view (take k fs) ++ (new ++ map formula_view (drop (suc k) fs))
-instead_parts [] k new lt = absurd (omega arith)
-instead_parts (g ∷ fs) zero new lt = refl
-instead_parts (g ∷ fs) (suc k) new lt = ap (λ l. formula_view g ∷ l) (instead_parts fs k new (omega arith))
+moved_parts : (fs new : List Formula) (k : ℕ) → k < length fs → map formula_view ((take k (take (suc k) fs) ++ new) ++ drop (suc k) fs) ≡ with_instead (map formula_view fs) (suc k) (map formula_view new)
+moved_parts [] new k lt = absurd (omega arith)
+moved_parts (g ∷ fs) new zero lt = map-append formula_view new fs
+moved_parts (g ∷ fs) new (suc k) lt = ap (λ l. formula_view g ∷ l) (moved_parts fs new k (omega arith))
 
-pub instead_whole : (fs : List Formula) (n k : ℕ) (new made : List PlainFormula) → n ≡ k + 1 → k < length fs → made ≡ (map formula_view (take k fs) ++ new) ++ map formula_view (drop (k + 1) fs) → made ≡ with_instead (map formula_view fs) n new
-instead_whole fs n k new made is lt m =
-    m
-    ∙ append_assoc (map formula_view (take k fs)) new (map formula_view (drop (k + 1) fs))
-    ∙ ap (λ j. map formula_view (take k fs) ++ (new ++ map formula_view (drop j fs))) (add-one k)
-    ∙ sym (instead_parts fs k new lt)
-    ∙ ap (λ j. with_instead (map formula_view fs) j new) (sym (add-one k) ∙ sym is)
+-- the formulas before the place, those in its stead, and those behind it
+pub instead_moved : (fs new made : List Formula) (n k : ℕ) → n ≡ k + 1 → k < length fs → made ≡ (take k (take n fs) ++ new) ++ drop n fs → map formula_view made ≡ with_instead (map formula_view fs) n (map formula_view new)
+instead_moved fs new made n k is lt e =
+    let next : n ≡ suc k = is ∙ add-one k in
+    ap (map formula_view) e ∙ subst (λ j. map formula_view ((take k (take j fs) ++ new) ++ drop j fs) ≡ with_instead (map formula_view fs) j (map formula_view new)) (sym next) (moved_parts fs new k lt)

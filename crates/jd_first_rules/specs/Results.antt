@@ -15,6 +15,7 @@ use Rattle.jd_first_rules.specs.declared.rules.Kind.TheVariants.{Closing, Whole,
 use Rattle.jd_first_rules.specs.declared.made.Made.{Made}
 use Rattle.jd_first_rules.specs.declared.made.Made.TheVariants.{Goals, Instead}
 use Rattle.jd_first_rules.specs.Goals.{goal_view}
+use Rattle.jd_first_rules.specs.Steps.{kind_of}
 use Rattle.jd_first_rules.specs.Causes.{whole_side, IsOn, IsAssumed}
 
 -- the formula that the rule puts for another, or that it puts none
@@ -44,3 +45,11 @@ made_premises s place (Instead after) = put_at s place (formula_view after) ∷ 
 abbrev pub AssumesRightly : FirstRule → PlainSequent → List (Option PlainPlace) → PlainFormula → Type 0
 AssumesRightly Close s assumes a = IsAssumed s assumes a
 AssumesRightly rule s assumes a = assumes ≡ []
+
+-- the rule makes this of a formula that stands at the step's place; the step gives nothing but what the rule assumes
+pub record IsTaken (rule : FirstRule) (s : PlainSequent) (p : PlainStep) (place : PlainPlace) (made : Made) : Type 0 where
+  pub formula : PlainFormula
+  pub at_it : IsAt rule s p place formula
+  pub is_made : IsMade (kind_of rule) rule place.side formula made
+  pub no_insts : p.insts ≡ []
+  pub rightly : AssumesRightly rule s p.assumes formula

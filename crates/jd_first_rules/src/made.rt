@@ -60,13 +60,13 @@ fn single(alloc: Global, premise: Sequent) -> Result<Vec<Sequent>, NoMemory>
 /// The premises that come of what a rule made of the formula at a place.
 pub fn premises_of(
     alloc: Global,
-    sequent: &Sequent,
+    sequent: Sequent,
     place: &Place,
     made: Made,
 ) -> Result<Vec<Sequent>, NoMemory>
-    requires { IsFormulaPlace (sequent_view sequent.now) (place_view place.now) }
+    requires { IsFormulaPlace (sequent_view sequent) (place_view place.now) }
     ensures { IfOk result
-        (λ v. map sequent_view v.items ≡ made_premises (sequent_view sequent.now) (place_view place.now) made) }
+        (λ v. map sequent_view v.items ≡ made_premises (sequent_view sequent) (place_view place.now) made) }
 {
     match made {
         Made::Goals(goals) => premises(alloc, sequent, place.side, place.index, goals),

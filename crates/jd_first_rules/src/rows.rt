@@ -1,4 +1,4 @@
-ghost use Rattle.std.specs.Prelude.{◌≡◌, ◌<◌, ◌≤◌, ◌++◌, ◌∷◌, [], IfOk, OnOk, map, length, option_map};
+ghost use Rattle.std.specs.Prelude.{◌≡◌, ◌<◌, ◌≤◌, ◌++◌, ◌∷◌, [], IfOk, map, length, option_map};
 ghost use Rattle.jd_term.specs.Formulas.{formula_view};
 ghost use Rattle.jd_model.specs.Sequents.{sequent_view};
 ghost use Rattle.jd_model.specs.Places.{on_side};
@@ -90,83 +90,57 @@ pub fn goals_of(
     }
 }
 
-// Adds copies of the formulas.
-fn extend(out: &mut Vec<Formula>, alloc: Global, formulas: &[Formula]) -> Result<(), NoMemory>
-    ensures { OnOk result (map formula_view out.new.items ≡ map formula_view out.old.items ++ map formula_view formulas.now) }
-{
-    for formula in formulas {
-        out.push(formula.copy(alloc)?)?;
-    }
-    Ok(())
-}
-
 // The formulas with others in place of the one with this number.
 fn instead(
-    alloc: Global,
-    formulas: &[Formula],
+    mut formulas: Vec<Formula>,
     index: u32,
     mut new: Vec<Formula>,
 ) -> Result<Vec<Formula>, NoMemory>
     requires some { 0 < index }
-    requires within { index ≤ length formulas.now }
+    requires within { index ≤ length formulas.items }
     ensures { IfOk result
-        (λ v. map formula_view v.items ≡ with_instead (map formula_view formulas.now) index (map formula_view new.items)) }
+        (λ v. map formula_view v.items ≡ with_instead (map formula_view formulas.items) index (map formula_view new.items)) }
 {
-    let place = index as usize - 1;
-    let (front, _) = formulas.split_at(place);
-    let (_, back) = formulas.split_at(index as usize);
-    let room = place.saturating_add(new.len()).saturating_add(back.len());
-    let mut out = Vec::with_capacity(alloc, room)?;
-    extend(&mut out, alloc, front)?;
-    out.append(&mut new)?;
-    extend(&mut out, alloc, back)?;
-    Ok(out)
+    let mut behind = formulas.split_off(index as usize)?;
+    formulas.truncate(index as usize - 1);
+    formulas.append(&mut new)?;
+    formulas.append(&mut behind)?;
+    Ok(formulas)
 }
 
 // The formulas and then others.
-fn joined(
-    alloc: Global,
-    formulas: &[Formula],
-    mut new: Vec<Formula>,
-) -> Result<Vec<Formula>, NoMemory>
-    ensures { IfOk result (λ v. map formula_view v.items ≡ map formula_view formulas.now ++ map formula_view new.items) }
+fn joined(mut formulas: Vec<Formula>, mut new: Vec<Formula>) -> Result<Vec<Formula>, NoMemory>
+    ensures { IfOk result (λ v. map formula_view v.items ≡ map formula_view formulas.items ++ map formula_view new.items) }
 {
-    let mut out = Vec::with_capacity(alloc, formulas.len().saturating_add(new.len()))?;
-    extend(&mut out, alloc, formulas)?;
-    out.append(&mut new)?;
-    Ok(out)
+    formulas.append(&mut new)?;
+    Ok(formulas)
 }
 
 /// The premise that a goal makes of a sequent.
-pub fn premise(
-    alloc: Global,
-    sequent: &Sequent,
-    side: Side,
-    index: u32,
-    goal: Goal,
-) -> Result<Sequent, NoMemory>
+pub fn premise(sequent: Sequent, side: Side, index: u32, goal: Goal) -> Result<Sequent, NoMemory>
     requires some { 0 < index }
-    requires within { index ≤ length (on_side (sequent_view sequent.now) side) }
+    requires within { index ≤ length (on_side (sequent_view sequent) side) }
     ensures { IfOk result
-        (λ s. sequent_view s ≡ goal_premise (sequent_view sequent.now) side index (goal_view goal)) }
+        (λ s. sequent_view s ≡ goal_premise (sequent_view sequent) side index (goal_view goal)) }
 {
     let Goal { here, other } = goal;
+    let Sequent { left, right } = sequent;
     match side {
         Side::Left => {
-            let left = instead(alloc, &sequent.left, index, here)?;
-            let right = joined(alloc, &sequent.right, other)?;
+            let left = instead(left, index, here)?;
+            let right = joined(right, other)?;
             Ok(Sequent { left, right })
         }
         Side::Right => {
-            let left = joined(alloc, &sequent.left, other)?;
-            let right = instead(alloc, &sequent.right, index, here)?;
+            let left = joined(left, other)?;
+            let right = instead(right, index, here)?;
             Ok(Sequent { left, right })
         }
     }
 }
 
-/// The premises that the goals make of a sequent.
-pub fn premises(
+// The premises that the goals make of copies of a sequent.
+fn copied_premises(
     alloc: Global,
     sequent: &Sequent,
     side: Side,
@@ -178,9 +152,31 @@ pub fn premises(
     ensures { IfOk result
         (λ v. map sequent_view v.items ≡ map (goal_premise (sequent_view sequent.now) side index) (map goal_view goals.items)) }
 {
-    let mut out = Vec::with_capacity(alloc, goals.len())?;
+    let mut out = Vec::with_capacity(alloc, goals.len().saturating_add(1))?;
     for goal in goals {
-        out.push(premise(alloc, sequent, side, index, goal)?)?;
+        let copy = sequent.copy(alloc)?;
+        out.push(premise(copy, side, index, goal)?)?;
     }
+    Ok(out)
+}
+
+/// The premises that the goals make of a sequent; the last one takes its formulas, and only those before it copy them.
+pub fn premises(
+    alloc: Global,
+    sequent: Sequent,
+    side: Side,
+    index: u32,
+    mut goals: Vec<Goal>,
+) -> Result<Vec<Sequent>, NoMemory>
+    requires some { 0 < index }
+    requires within { index ≤ length (on_side (sequent_view sequent) side) }
+    ensures { IfOk result
+        (λ v. map sequent_view v.items ≡ map (goal_premise (sequent_view sequent) side index) (map goal_view goals.items)) }
+{
+    let Some(last) = goals.pop() else {
+        return Ok(Vec::new(alloc))
+    };
+    let mut out = copied_premises(alloc, &sequent, side, index, goals)?;
+    out.push(premise(sequent, side, index, last)?)?;
     Ok(out)
 }

@@ -1,5 +1,5 @@
 ghost use Rattle.std.specs.Prelude.{◌≡◌, ◌↔◌, IsTrue, All, MatchResult, map};
-ghost use Rattle.jd_model.specs.Sequents.{sequent_view};
+ghost use Rattle.jd_model.specs.Sequents.{place_view, sequent_view};
 ghost use Rattle.jd_sequent.specs.Steps.{step_view};
 ghost use Rattle.jd_sequent.specs.Rules.{IsCaused};
 ghost use Rattle.jd_sequent.specs.Limits.{IsWithinLimits};
@@ -11,12 +11,13 @@ ghost use Rattle.jd_first_steps.proofs.SortedSteps.{instances_keep_sorted};
 ghost use Rattle.jd_first_rules.specs.Causes.{Cause};
 ghost use Rattle.jd_first_rules.specs.NoCause.{no_cause};
 ghost use Rattle.jd_first_rules.specs.Laws.{one_way, few};
+ghost use Rattle.jd_first_rules.specs.Results.{IsTaken};
 
-use crate::made::{made_of, premises_of};
+use crate::made::{Made, made_of, premises_of};
 use crate::names::named;
 use crate::step::{assumes_rightly, formula_at};
 use jd_first_steps::FirstRule;
-use jd_model::Sequent;
+use jd_model::{Place, Sequent};
 use jd_sequent::{Bad, RuleSet, Step, Task, is_within_limits};
 use std::alloc::Global;
 
@@ -25,16 +26,16 @@ use std::alloc::Global;
 #[derive(Clone, Copy, Debug)]
 pub struct FirstRules;
 
-// The premises of a step of the rule, also where one of them passes a limit.
-fn applied(
+// What the rule makes of the formula at the step's place, and that place.
+fn made_at<'a>(
     alloc: Global,
     rule: FirstRule,
     sequent: &Sequent,
-    step: &Step,
-) -> Result<Vec<Sequent>, Bad>
+    step: &'a Step,
+) -> Result<(&'a Place, Made), Bad>
     requires { (step_view step.now).rule ≡ rule_name rule }
     ensures { MatchResult result
-        (λ premises. IsInstance (sequent_view sequent.now) (step_view step.now) (map sequent_view premises.items))
+        (λ m. IsTaken rule (sequent_view sequent.now) (step_view step.now) (place_view m.0.now) m.1)
         (λ bad. IsCaused (Cause (sequent_view sequent.now) (step_view step.now)) bad) }
 {
     let (place, formula) = match formula_at(rule, sequent, step) {
@@ -50,6 +51,25 @@ fn applied(
     if !assumes_rightly(rule, sequent, &step.assumes, formula) {
         return Err(Bad::NoAssume);
     }
+    Ok((place, made))
+}
+
+// The premises of a step of the rule, also where one of them passes a limit.
+fn applied(
+    alloc: Global,
+    rule: FirstRule,
+    sequent: Sequent,
+    step: &Step,
+) -> Result<Vec<Sequent>, Bad>
+    requires { (step_view step.now).rule ≡ rule_name rule }
+    ensures { MatchResult result
+        (λ premises. IsInstance (sequent_view sequent) (step_view step.now) (map sequent_view premises.items))
+        (λ bad. IsCaused (Cause (sequent_view sequent) (step_view step.now)) bad) }
+{
+    let (place, made) = match made_at(alloc, rule, &sequent, step) {
+        Err(bad) => return Err(bad),
+        Ok(found) => found,
+    };
     let premises = premises_of(alloc, sequent, place, made)?;
     Ok(premises)
 }
@@ -76,8 +96,19 @@ impl RuleSet for FirstRules {
     fn apply(
         &self,
         alloc: Global,
-        _task: &Task<'_>,
+        task: &Task<'_>,
         sequent: &Sequent,
+        step: &Step,
+    ) -> Result<Vec<Sequent>, Bad> {
+        let sequent = sequent.copy(alloc)?;
+        self.apply_to(alloc, task, sequent, step)
+    }
+
+    fn apply_to(
+        &self,
+        alloc: Global,
+        _task: &Task<'_>,
+        sequent: Sequent,
         step: &Step,
     ) -> Result<Vec<Sequent>, Bad> {
         let Some(rule) = named(&step.rule) else {

@@ -73,11 +73,11 @@ fn is_on(side: Option<Side>, place: &Place) -> bool
 }
 
 /// The formula at the step's place, if there is one and the rule acts on such a place.
-pub fn formula_at<'a>(
+pub fn formula_at<'a, 'b>(
     rule: FirstRule,
     sequent: &'a Sequent,
-    step: &'a Step,
-) -> Result<(&'a Place, &'a Formula), Bad>
+    step: &'b Step,
+) -> Result<(&'b Place, &'a Formula), Bad>
     requires { (step_view step.now).rule ≡ rule_name rule }
     ensures { MatchResult result
         (λ f. IsAt rule (sequent_view sequent.now) (step_view step.now) (place_view f.0.now) (formula_view f.1.now))

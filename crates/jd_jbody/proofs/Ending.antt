@@ -12,8 +12,8 @@ use Rattle.jd_jexpr.specs.Advances.{Advances, can_end}
 use Rattle.jd_jexpr.specs.declared.reading.Advance.{Advance}
 use Rattle.jd_jexpr.specs.declared.reading.Advance.TheVariants as advances
 use Rattle.jd_jexpr.specs.declared.values.Value.{Value}
-use Rattle.jd_jbody.specs.Terminals.{name_turns}
-use Rattle.jd_jbody.specs.Views.{State, Stack}
+use Rattle.jd_jstates.specs.Terminals.{name_turns}
+use Rattle.jd_jstates.specs.Views.{State, Stack}
 
 abbrev Hole : Type 0
 Hole = reader.Hole Capped CappedList CappedNames

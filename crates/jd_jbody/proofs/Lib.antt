@@ -1,4 +1,4 @@
 pub mod Ending
-mod Settling
+mod Handling
 mod Turning
 mod Wanting

@@ -7,9 +7,9 @@ use Rattle.jd_jgrammar.specs.StatementReader as reader
 use Rattle.jd_jtrees.specs.CappedTrees.{Capped, CappedList, capped_trees}
 use Rattle.jd_jtrees.specs.CappedBodies.{CappedNames, capped_statements}
 use Rattle.jd_jexpr.specs.Advances.{lone_name_of}
-use Rattle.jd_jbody.specs.Terminals.{name_turns, word_in}
+use Rattle.jd_jstates.specs.Terminals.{name_turns, word_in}
 use Rattle.jd_jbody.specs.Turns.{TurnOf, turn_of, type_turned, label_turned}
-use Rattle.jd_jbody.specs.Views.{State, Stack}
+use Rattle.jd_jstates.specs.Views.{State, Stack}
 use Rattle.jd_jbody.proofs.Ending.{no_hole}
 
 abbrev Hole : Type 0

@@ -8,8 +8,8 @@ use Rattle.jd_jgrammar.specs.ExpressionReader as expression
 use Rattle.jd_jgrammar.specs.StatementReader as reader
 use Rattle.jd_jtrees.specs.CappedTrees.{Capped, CappedList}
 use Rattle.jd_jtrees.specs.CappedBodies.{CappedStatement, CappedStatements, CappedNames, CappedHandlers, capped_statements}
-use Rattle.jd_jbody.specs.Terminals.{mark_in, type_word, word_in, is_semicolon, is_close_paren, is_set, is_else, is_catch, is_finally}
-use Rattle.jd_jbody.specs.Views.{State, Stack}
+use Rattle.jd_jstates.specs.Terminals.{mark_in, type_word, word_in, is_semicolon, is_close_paren, is_set, is_else, is_catch, is_finally}
+use Rattle.jd_jstates.specs.Views.{State, Stack}
 
 -- ---- where a statement has to come
 

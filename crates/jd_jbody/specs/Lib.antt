@@ -1,4 +1,1 @@
-pub mod Settled
-pub mod Terminals
 pub mod Turns
-pub mod Views

@@ -9,7 +9,7 @@ use Rattle.jd_jtrees.specs.CappedBodies.{CappedNames, capped_statements}
 use Rattle.jd_jstatements.specs.Views.{open_view}
 use Rattle.jd_jbody.specs.declared.expressions.Turn.{Turn}
 use Rattle.jd_jbody.specs.declared.expressions.Turn.TheVariants as turns
-use Rattle.jd_jbody.specs.Views.{State, Stack}
+use Rattle.jd_jstates.specs.Views.{State, Stack}
 
 pub data TurnOf : Type 0 where
   -- the type of a local, or a label

@@ -5,15 +5,15 @@ ghost use Rattle.jd_jgrammar.specs.StatementReader as reader;
 ghost use Rattle.jd_jtokens.specs.Terminals.{terminal_view};
 ghost use Rattle.jd_jtrees.specs.CappedBodies.{capped_statements};
 ghost use Rattle.jd_jstatements.specs.Views.{block_view, handlers_view, statement_view};
-ghost use Rattle.jd_jbody.specs.Views.{body_view, role_view, stack_view};
+ghost use Rattle.jd_jstates.specs.Views.{body_view, role_view, stack_view};
 
-use crate::reading::{BodyReading, CatchState, Frame, Role, Top};
-use crate::settle::settle;
-use crate::stack::{at_top, given_up, pop, push};
-use crate::terminals::{is_catch, is_else, is_finally};
-use crate::want::{want, wanted};
+use crate::want::wanted;
 use jd_base::NoMemory;
 use jd_jstatements::{Block, Handlers, Statement, add, tried};
+use jd_jstates::{
+    BodyReading, CatchState, Frame, Role, Top, at_top, given_up, is_catch, is_else, is_finally,
+    pop, push, settle, want,
+};
 use jd_jtokens::Terminal;
 use std::alloc::Global;
 

@@ -4,12 +4,11 @@ ghost use Rattle.std.specs.Prelude.{◌≡◌, ◌∷◌, true, IfOk, option_map
 ghost use Rattle.jd_jgrammar.specs.StatementReader as reader;
 ghost use Rattle.jd_jtrees.specs.CappedBodies.{capped_statements};
 ghost use Rattle.jd_jstatements.specs.Views.{statements_view};
-ghost use Rattle.jd_jbody.specs.Views.{body_view, role_view, stack_view};
+ghost use Rattle.jd_jstates.specs.Views.{body_view, role_view, stack_view};
 
-use crate::reading::{BodyReading, Frame, Opening, Role, Top};
-use crate::stack::{at_top, given_up, pop, push};
 use jd_base::NoMemory;
 use jd_jstatements::{Block, Finally, Statements, handler, inner, no_handlers, tried};
+use jd_jstates::{BodyReading, Frame, Opening, Role, Top, at_top, given_up, pop, push};
 use std::alloc::Global;
 
 // A body ends where nothing waits for it.

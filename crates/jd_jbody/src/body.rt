@@ -5,7 +5,7 @@ ghost use Rattle.jd_jgrammar.specs.StatementReader as reader;
 ghost use Rattle.jd_jtokens.specs.Terminals.{terminal_view};
 ghost use Rattle.jd_jtrees.specs.CappedBodies.{capped_statements};
 ghost use Rattle.jd_jstatements.specs.Views.{block_view};
-ghost use Rattle.jd_jbody.specs.Views.{body_view, stack_view, state_of};
+ghost use Rattle.jd_jstates.specs.Views.{body_view, stack_view, state_of};
 
 use crate::behind::{did, tries};
 use crate::declarations::{has_name, in_type, name_wanted, type_wanted};
@@ -15,10 +15,10 @@ use crate::parts::{
     arguments_wanted, block_wanted, colon_wanted, jump_ends, jumps, paren_wanted, result_wanted,
     start_wanted, super_ends, test_wanted, update_wanted,
 };
-use crate::reading::{BodyReading, Frame, Role, Top};
 use crate::want::{loop_wanted, wanted};
 use jd_base::NoMemory;
 use jd_jstatements::Block;
+use jd_jstates::{BodyReading, Frame, Role, Top};
 use jd_jtokens::Terminal;
 use std::alloc::Global;
 

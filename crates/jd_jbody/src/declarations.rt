@@ -7,14 +7,15 @@ ghost use Rattle.jd_jtokens.specs.Terminals.{terminal_view};
 ghost use Rattle.jd_jtrees.specs.CappedBodies.{capped_statements};
 ghost use Rattle.jd_jexpr.specs.Views.{type_state_view, type_view};
 ghost use Rattle.jd_jstatements.specs.Views.{declared_view, names_view};
-ghost use Rattle.jd_jbody.specs.Views.{body_view, declaration_view, names_before, stack_view};
+ghost use Rattle.jd_jstates.specs.Views.{body_view, declaration_view, names_before, stack_view};
 
-use crate::reading::{BodyReading, Declaration, Frame, Hole, NamesBefore, Top};
-use crate::stack::{at_top, in_hole};
-use crate::terminals::{is_comma, is_semicolon, is_set, word_in};
 use jd_base::NoMemory;
 use jd_jexpr::{TypeState, TypeTokens, ended_type, more_type, start_type};
 use jd_jstatements::{Declared, ForHead, Names, local, more_names, one_name};
+use jd_jstates::{
+    BodyReading, Declaration, Frame, Hole, NamesBefore, Top, at_top, in_hole, is_comma,
+    is_semicolon, is_set, word_in,
+};
 use jd_jtokens::Terminal;
 use std::alloc::Global;
 

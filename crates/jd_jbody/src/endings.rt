@@ -6,19 +6,17 @@ ghost use Rattle.jd_jtokens.specs.Terminals.{terminal_view};
 ghost use Rattle.jd_jtrees.specs.CappedBodies.{capped_statements};
 ghost use Rattle.jd_jexpr.specs.Views.{list_view, value_view};
 ghost use Rattle.jd_jstatements.specs.Views.{head_view, open_view};
-ghost use Rattle.jd_jbody.specs.Views.{body_view, hole_view, items_before, list_place_view, stack_view};
+ghost use Rattle.jd_jstates.specs.Views.{body_view, hole_view, items_before, list_place_view, stack_view};
 
 use crate::declarations::{all_names, declared};
-use crate::reading::{
-    BodyReading, Declaration, Frame, Hole, ItemsBefore, ListPlace, NamesBefore, Top,
-};
-use crate::stack::{at_top, in_hole};
-use crate::terminals::{is_close_paren, is_comma, is_semicolon};
-use crate::want::want;
 use jd_base::NoMemory;
 use jd_jexpr::{TypeTokens, Value, ValueList, first, is_effect, more};
 use jd_jstatements::{
     Annotation, Declared, ForHead, ForOpen, Initial, evaluated, returned, thrown,
+};
+use jd_jstates::{
+    BodyReading, Declaration, Frame, Hole, ItemsBefore, ListPlace, NamesBefore, Top, at_top,
+    in_hole, is_close_paren, is_comma, is_semicolon, want,
 };
 use jd_jtokens::Terminal;
 use std::alloc::Global;

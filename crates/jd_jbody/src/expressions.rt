@@ -5,19 +5,19 @@ ghost use Rattle.jd_jgrammar.specs.StatementReader as reader;
 ghost use Rattle.jd_jtokens.specs.Terminals.{terminal_view};
 ghost use Rattle.jd_jtrees.specs.CappedBodies.{capped_statements};
 ghost use Rattle.jd_jexpr.specs.Views.{reading_view};
-ghost use Rattle.jd_jbody.specs.Terminals as terminals;
+ghost use Rattle.jd_jstates.specs.Terminals as terminals;
 ghost use Rattle.jd_jbody.specs.Turns as turns;
 ghost use Rattle.jd_jbody.specs.Turns.{turn_view};
-ghost use Rattle.jd_jbody.specs.Views.{body_view, hole_view, stack_view};
+ghost use Rattle.jd_jstates.specs.Views.{body_view, hole_view, stack_view};
 
 use crate::endings::end_value;
-use crate::reading::{BodyReading, Declaration, Frame, Hole, ListPlace, Top};
-use crate::stack::{at_top, given_up, is_in_block};
-use crate::terminals::{name_turns, word_in};
-use crate::want::want;
 use jd_base::{NoMemory, copy_bytes};
 use jd_jexpr::{Advance, Reading, TypeTokens, advance, lone_name, start};
 use jd_jstatements::ForOpen;
+use jd_jstates::{
+    BodyReading, Declaration, Frame, Hole, ListPlace, Top, at_top, given_up, is_in_block,
+    name_turns, want, word_in,
+};
 use jd_jtokens::Terminal;
 use std::alloc::Global;
 

@@ -10,16 +10,7 @@ mod endings;
 mod expressions;
 mod handlers;
 mod parts;
-mod reading;
-mod settle;
-mod stack;
-mod terminals;
 mod want;
 
 pub use body::{ended_body, is_whole, start_body, step};
 pub use endings::end_value;
-pub use reading::{
-    BodyReading, CatchState, Declaration, Frame, Hole, ItemsBefore, ListPlace, NamesBefore,
-    Opening, Role, Top,
-};
-pub use terminals::name_turns;

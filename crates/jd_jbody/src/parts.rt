@@ -6,19 +6,18 @@ ghost use Rattle.jd_jtokens.specs.Terminals.{terminal_view};
 ghost use Rattle.jd_jtrees.specs.CappedBodies.{capped_statements};
 ghost use Rattle.jd_jexpr.specs.Views.{list_view, value_view};
 ghost use Rattle.jd_jstatements.specs.Views.{annotation_view, head_view, jump_view, open_view};
-ghost use Rattle.jd_jbody.specs.Views.{body_view, opening_view, role_view, stack_view};
+ghost use Rattle.jd_jstates.specs.Views.{body_view, opening_view, role_view, stack_view};
 
 use crate::expressions::start_expression;
-use crate::reading::{BodyReading, Declaration, Frame, Hole, ListPlace, Opening, Role, Top};
-use crate::stack::{at_top, in_hole, push};
-use crate::terminals::{
-    is_close_paren, is_colon, is_open_brace, is_open_paren, is_semicolon, type_word, word_in,
-};
-use crate::want::want;
 use jd_base::NoMemory;
 use jd_jexpr::{Value, ValueList};
 use jd_jstatements::{
     Annotation, ForHead, ForOpen, Jump, Label, jump, no_statements, returned, super_call,
+};
+use jd_jstates::{
+    BodyReading, Declaration, Frame, Hole, ListPlace, Opening, Role, Top, at_top, in_hole,
+    is_close_paren, is_colon, is_open_brace, is_open_paren, is_semicolon, push, type_word, want,
+    word_in,
 };
 use jd_jtokens::Terminal;
 use std::alloc::Global;

@@ -7,27 +7,19 @@ ghost use Rattle.jd_jtokens.specs.Terminals.{mark_view, terminal_view};
 ghost use Rattle.jd_jtrees.specs.CappedBodies.{capped_statements};
 ghost use Rattle.jd_jexpr.specs.Views.{type_state_view};
 ghost use Rattle.jd_jstatements.specs.Views.{annotation_view};
-ghost use Rattle.jd_jbody.specs.Views.{body_view, declaration_view, frame_view, stack_view};
+ghost use Rattle.jd_jstates.specs.Views.{body_view, declaration_view, frame_view, stack_view};
 
 use crate::blocks::{end_block, super_wanted};
 use crate::expressions::start_expression;
-use crate::reading::{BodyReading, Declaration, Frame, Hole, Opening, Role, Top};
-use crate::stack::{at_top, in_hole, is_in_block, push};
-use crate::terminals::{mark_in, type_word, word_in};
 use jd_base::NoMemory;
 use jd_jexpr::TypeState;
 use jd_jstatements::{Annotation, Jump, empty, no_statements};
+use jd_jstates::{
+    BodyReading, Declaration, Frame, Hole, Opening, Role, Top, at_top, in_hole, is_in_block,
+    mark_in, type_word, want, word_in,
+};
 use jd_jtokens::{Mark, Terminal};
 use std::alloc::Global;
-
-/// A statement has to come behind what waits innermost.
-pub(crate) fn want(frames: Vec<Frame>, frame: Frame) -> Result<BodyReading, NoMemory>
-    ensures { IfOk result (λ r. body_view r ≡ reader.Want (frame_view frame ∷ stack_view frames.items)) }
-{
-    let mut frames = frames;
-    push(&mut frames, frame)?;
-    Ok(at_top(Top::Want, frames))
-}
 
 // A declaration of locals, which stands directly in a block (JLS 14.4).
 fn local_begins(limit: u16, frames: Vec<Frame>, state: TypeState) -> Option<BodyReading>

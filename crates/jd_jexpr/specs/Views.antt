@@ -60,7 +60,7 @@ prefix_view (prefixes.Signed op) = expressions.Signed (operator_view op)
 prefix_view (prefixes.Counting c) = expressions.Counting (count_view c)
 
 abbrev pub value_view : Value → Capped
-value_view v = record { kind = kind_view v.kind; height = v.height; tree = option_map java_view v.tree }
+value_view v = record { kind = kind_view v.kind; height = v.height; tree = option_map (λ e. java_view e.value) v.tree }
 
 abbrev pub list_view : ValueList → CappedList
 list_view xs = record { height = xs.height; trees = option_map (λ v. map java_view v.items) xs.trees }
@@ -79,8 +79,8 @@ abbrev pub frame_view : Frame → reader.Frame Capped CappedList
 frame_view (frames.InParentheses p) = reader.InParentheses p
 frame_view (frames.InIndex v p) = reader.InIndex (value_view v) p
 frame_view (frames.InLength p q r) = reader.InLength p q r
-frame_view (frames.InCall c p) = reader.InCall (callee_view c) p
-frame_view (frames.InArguments c p xs q) = reader.InArguments (callee_view c) p (list_view xs) q
+frame_view (frames.InCall c p) = reader.InCall (callee_view c.value) p
+frame_view (frames.InArguments c p xs q) = reader.InArguments (callee_view c.value) p (list_view xs) q
 frame_view (frames.AfterQuestion v p) = reader.AfterQuestion (value_view v) p
 frame_view (frames.AfterPrefix x p) = reader.AfterPrefix (prefix_view x) p
 frame_view (frames.AfterCast p t q) = reader.AfterCast p (type_view t) q

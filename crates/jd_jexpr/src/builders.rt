@@ -1,4 +1,4 @@
-ghost use Rattle.std.specs.Prelude.{◌≡◌, IfOk, Some, None, map};
+ghost use Rattle.std.specs.Prelude.{◌≡◌, IfOk, Some, None, map, option_map};
 ghost use Rattle.jd_syntax.specs.JavaTrees.{java_view};
 ghost use Rattle.jd_jgrammar.specs.Expressions as expressions;
 ghost use Rattle.jd_jgrammar.specs.Builders.{Constructor, Method, On, Own};
@@ -20,14 +20,15 @@ use jd_jtokens::{Assignment, Count, Literal, Operator};
 use jd_syntax::{Expr, ExprForm};
 use std::alloc::Global;
 
-fn with_tree(kind: Kind, height: u32, tree: Expr) -> Value
-    ensures { value_view result ≡ record { kind = kind_view kind; height = height; tree = Some (java_view tree) } }
+fn with_tree(alloc: Global, kind: Kind, height: u32, tree: Expr) -> Result<Value, NoMemory>
+    ensures { IfOk result (λ v. value_view v ≡ record { kind = kind_view kind; height = height; tree = Some (java_view tree) }) }
 {
-    Value {
+    let tree = Box::new(alloc, tree)?;
+    Ok(Value {
         kind,
         height,
         tree: Some(tree),
-    }
+    })
 }
 
 fn without_tree(kind: Kind, height: u32) -> Value
@@ -51,52 +52,36 @@ fn inside(kind: Kind) -> Kind
 }
 
 /// A number; 2147483648 is the least one behind a minus (JLS 3.10.1).
-pub fn integer(limit: u16, n: u32, at: u32) -> Value
-    ensures { value_view result ≡ (capped_trees limit).integer n at }
+pub fn integer(alloc: Global, limit: u16, n: u32, at: u32) -> Result<Value, NoMemory>
+    ensures { IfOk result (λ v. value_view v ≡ (capped_trees limit).integer n at) }
 {
     let kind = if n < 2_147_483_648 {
         Kind::Primary
     } else {
         Kind::Least
     };
-    Value {
-        kind,
-        height: 0,
-        tree: Some(Expr {
-            at,
-            form: ExprForm::Integer(n),
-        }),
-    }
+    let form = ExprForm::Integer(n);
+    with_tree(alloc, kind, 0, Expr { at, form })
 }
 
 /// `true`, `false` or `null`.
-pub fn constant(limit: u16, literal: Literal, at: u32) -> Value
-    ensures { value_view result ≡ (capped_trees limit).value (literal_view literal) at }
+pub fn constant(alloc: Global, limit: u16, literal: Literal, at: u32) -> Result<Value, NoMemory>
+    ensures { IfOk result (λ v. value_view v ≡ (capped_trees limit).value (literal_view literal) at) }
 {
     let form = match literal {
         Literal::True => ExprForm::Boolean(true),
         Literal::False => ExprForm::Boolean(false),
         Literal::Null => ExprForm::Null,
     };
-    Value {
-        kind: Kind::Primary,
-        height: 0,
-        tree: Some(Expr { at, form }),
-    }
+    with_tree(alloc, Kind::Primary, 0, Expr { at, form })
 }
 
 /// `this`
-pub fn this_object(limit: u16, at: u32) -> Value
-    ensures { value_view result ≡ (capped_trees limit).this_object at }
+pub fn this_object(alloc: Global, limit: u16, at: u32) -> Result<Value, NoMemory>
+    ensures { IfOk result (λ v. value_view v ≡ (capped_trees limit).this_object at) }
 {
-    Value {
-        kind: Kind::Target,
-        height: 0,
-        tree: Some(Expr {
-            at,
-            form: ExprForm::This,
-        }),
-    }
+    let form = ExprForm::This;
+    with_tree(alloc, Kind::Target, 0, Expr { at, form })
 }
 
 /// `e . x`
@@ -118,8 +103,8 @@ fn member(
     let Some(object) = within(limit, height, tree) else {
         return Ok(without_tree(Kind::Target, height));
     };
-    let tree = field_tree(alloc, object, name, at)?;
-    Ok(with_tree(Kind::Target, height, tree))
+    let tree = field_tree(object, name, at);
+    with_tree(alloc, Kind::Target, height, tree)
 }
 
 /// A name, or a member of an expression.
@@ -127,7 +112,10 @@ pub fn get(alloc: Global, limit: u16, access: Access) -> Result<Value, NoMemory>
     ensures { IfOk result (λ v. value_view v ≡ (capped_trees limit).get (access_view access)) }
 {
     match access {
-        Access::Own(name, at) => Ok(with_tree(Kind::Target, 0, name_tree(name, at))),
+        Access::Own(name, at) => {
+            let value = with_tree(alloc, Kind::Target, 0, name_tree(name, at))?;
+            Ok(value)
+        }
         Access::On(object, _, name, at) => {
             let value = member(alloc, limit, object, name, at)?;
             Ok(value)
@@ -145,32 +133,46 @@ pub fn parenthesized(alloc: Global, limit: u16, at: u32, inner: Value) -> Result
     let Some(inner) = within(limit, height, tree) else {
         return Ok(without_tree(kind, height));
     };
-    let tree = parenthesized_tree(alloc, at, inner)?;
-    Ok(with_tree(kind, height, tree))
+    let tree = parenthesized_tree(at, inner);
+    with_tree(alloc, kind, height, tree)
 }
 
 /// `m ( e , .. )`
-fn call_own(limit: u16, name: Vec<u8>, at: u32, arguments: ValueList) -> Value
-    ensures { value_view result ≡ (capped_trees limit).call (Method (Own name.items at)) 0 (list_view arguments) 0 }
+fn call_own(
+    alloc: Global,
+    limit: u16,
+    name: Vec<u8>,
+    at: u32,
+    arguments: ValueList,
+) -> Result<Value, NoMemory>
+    ensures { IfOk result (λ v. value_view v ≡ (capped_trees limit).call (Method (Own name.items at)) 0 (list_view arguments) 0) }
 {
     let ValueList { height, trees } = arguments;
     let height = over(limit, height);
     let Some(arguments) = within(limit, height, trees) else {
-        return without_tree(Kind::Called, height);
+        return Ok(without_tree(Kind::Called, height));
     };
-    with_tree(Kind::Called, height, call_tree(name, at, arguments))
+    with_tree(alloc, Kind::Called, height, call_tree(name, at, arguments))
 }
 
 /// `new C ( e , .. )`, with the offsets of `new` and of the name.
-fn call_constructor(limit: u16, at: u32, name: Vec<u8>, name_at: u32, arguments: ValueList) -> Value
-    ensures { value_view result ≡ (capped_trees limit).call (Constructor at name.items name_at) 0 (list_view arguments) 0 }
+fn call_constructor(
+    alloc: Global,
+    limit: u16,
+    at: u32,
+    name: Vec<u8>,
+    name_at: u32,
+    arguments: ValueList,
+) -> Result<Value, NoMemory>
+    ensures { IfOk result (λ v. value_view v ≡ (capped_trees limit).call (Constructor at name.items name_at) 0 (list_view arguments) 0) }
 {
     let ValueList { height, trees } = arguments;
     let height = over(limit, height);
     let Some(arguments) = within(limit, height, trees) else {
-        return without_tree(Kind::Called, height);
+        return Ok(without_tree(Kind::Called, height));
     };
-    with_tree(Kind::Called, height, new_tree(at, name, name_at, arguments))
+    let tree = new_tree(at, name, name_at, arguments);
+    with_tree(alloc, Kind::Called, height, tree)
 }
 
 /// `e . m ( e , .. )`
@@ -198,8 +200,8 @@ fn call_member(
     let Some((object, arguments)) = within(limit, height, both) else {
         return Ok(without_tree(Kind::Called, height));
     };
-    let tree = method_tree(alloc, object, name, at, arguments)?;
-    Ok(with_tree(Kind::Called, height, tree))
+    let tree = method_tree(object, name, at, arguments);
+    with_tree(alloc, Kind::Called, height, tree)
 }
 
 fn call_method(
@@ -211,7 +213,10 @@ fn call_method(
     ensures { IfOk result (λ v. value_view v ≡ (capped_trees limit).call (Method (access_view access)) 0 (list_view arguments) 0) }
 {
     match access {
-        Access::Own(name, at) => Ok(call_own(limit, name, at, arguments)),
+        Access::Own(name, at) => {
+            let value = call_own(alloc, limit, name, at, arguments)?;
+            Ok(value)
+        }
         Access::On(object, _, name, at) => {
             let value = call_member(alloc, limit, object, name, at, arguments)?;
             Ok(value)
@@ -246,7 +251,8 @@ pub fn call(
             Ok(value)
         }
         Callee::Constructor(at, name, name_at) => {
-            Ok(call_constructor(limit, at, name, name_at, arguments))
+            let value = call_constructor(alloc, limit, at, name, name_at, arguments)?;
+            Ok(value)
         }
     }
 }
@@ -264,8 +270,8 @@ pub fn new_array(alloc: Global, limit: u16, at: u32, length: Value) -> Result<Va
     let Some(length) = within(limit, height, tree) else {
         return Ok(without_tree(Kind::Created, height));
     };
-    let tree = new_array_tree(alloc, at, length)?;
-    Ok(with_tree(Kind::Created, height, tree))
+    let tree = new_array_tree(at, length);
+    with_tree(alloc, Kind::Created, height, tree)
 }
 
 /// `a [ i ]`
@@ -287,8 +293,8 @@ pub fn index(alloc: Global, limit: u16, array: Value, place: Value) -> Result<Va
     let Some((array, place)) = within(limit, height, both) else {
         return Ok(without_tree(Kind::Target, height));
     };
-    let tree = index_tree(alloc, array, place)?;
-    Ok(with_tree(Kind::Target, height, tree))
+    let tree = index_tree(array, place);
+    with_tree(alloc, Kind::Target, height, tree)
 }
 
 /// `e ++`
@@ -304,8 +310,8 @@ pub fn counted(alloc: Global, limit: u16, value: Value, count: Count) -> Result<
     let Some(value) = within(limit, height, tree) else {
         return Ok(without_tree(Kind::AfterCount, height));
     };
-    let tree = postfix_tree(alloc, value, count)?;
-    Ok(with_tree(Kind::AfterCount, height, tree))
+    let tree = postfix_tree(value, count);
+    with_tree(alloc, Kind::AfterCount, height, tree)
 }
 
 fn prefix_kind(prefix: Prefix) -> Kind
@@ -337,8 +343,8 @@ pub fn prefixed(
     let Some(value) = within(limit, height, tree) else {
         return Ok(without_tree(kind, height));
     };
-    let tree = prefix_tree(alloc, prefix, at, value)?;
-    Ok(with_tree(kind, height, tree))
+    let tree = prefix_tree(prefix, at, value);
+    with_tree(alloc, kind, height, tree)
 }
 
 /// `( T ) e`, with the offset of its first bracket.
@@ -360,8 +366,8 @@ pub fn cast(
     let Some(value) = within(limit, height, tree) else {
         return Ok(without_tree(Kind::Plain, height));
     };
-    let tree = cast_tree(alloc, at, ty, value)?;
-    Ok(with_tree(Kind::Plain, height, tree))
+    let tree = cast_tree(at, ty, value);
+    with_tree(alloc, Kind::Plain, height, tree)
 }
 
 /// `l + r`; the operator stands between operands.
@@ -389,8 +395,8 @@ pub fn binary(
     let Some((left, right)) = within(limit, height, both) else {
         return Ok(without_tree(Kind::Plain, height));
     };
-    let tree = infix_tree(alloc, operator, left, right)?;
-    Ok(with_tree(Kind::Plain, height, tree))
+    let tree = infix_tree(operator, left, right);
+    with_tree(alloc, Kind::Plain, height, tree)
 }
 
 /// `e instanceof T`
@@ -411,8 +417,8 @@ pub fn instance_of(
     let Some(value) = within(limit, height, tree) else {
         return Ok(without_tree(Kind::Relation, height));
     };
-    let tree = instance_tree(alloc, value, ty)?;
-    Ok(with_tree(Kind::Relation, height, tree))
+    let tree = instance_tree(value, ty);
+    with_tree(alloc, Kind::Relation, height, tree)
 }
 
 /// `c ? a : b`
@@ -445,8 +451,8 @@ pub fn conditional(
     let Some(((condition, then), other)) = within(limit, height, all) else {
         return Ok(without_tree(Kind::Plain, height));
     };
-    let tree = conditional_tree(alloc, condition, then, other)?;
-    Ok(with_tree(Kind::Plain, height, tree))
+    let tree = conditional_tree(condition, then, other);
+    with_tree(alloc, Kind::Plain, height, tree)
 }
 
 /// `l = r`
@@ -474,8 +480,8 @@ pub fn assigned(
     let Some((target, value)) = within(limit, height, both) else {
         return Ok(without_tree(Kind::Effect, height));
     };
-    let tree = assign_tree(alloc, operator, target, value)?;
-    Ok(with_tree(Kind::Effect, height, tree))
+    let tree = assign_tree(operator, target, value);
+    with_tree(alloc, Kind::Effect, height, tree)
 }
 
 fn with_trees(height: u32, trees: Vec<Expr>) -> ValueList
@@ -496,16 +502,27 @@ fn without_trees(height: u32) -> ValueList
     }
 }
 
+/// The tree of a value, where nothing in it is too high.
+pub fn tree_of(value: Value) -> Option<Expr>
+    ensures { option_map java_view result ≡ (value_view value).tree }
+{
+    let Value {
+        kind: _,
+        height: _,
+        tree,
+    } = value;
+    match tree {
+        Some(tree) => Some(Box::into_inner(tree)),
+        None => None,
+    }
+}
+
 /// The first argument.
 pub fn first(alloc: Global, limit: u16, value: Value) -> Result<ValueList, NoMemory>
     ensures { IfOk result (λ xs. list_view xs ≡ (capped_trees limit).first (value_view value)) }
 {
-    let Value {
-        kind: _,
-        height,
-        tree,
-    } = value;
-    let Some(tree) = tree else {
+    let height = value.height;
+    let Some(tree) = tree_of(value) else {
         return Ok(without_trees(height));
     };
     let mut trees = Vec::with_capacity(alloc, 1)?;
@@ -518,13 +535,8 @@ pub fn more(limit: u16, list: ValueList, value: Value) -> Result<ValueList, NoMe
     ensures { IfOk result (λ xs. list_view xs ≡ (capped_trees limit).more (list_view list) 0 (value_view value)) }
 {
     let ValueList { height, trees } = list;
-    let Value {
-        kind: _,
-        height: value_height,
-        tree,
-    } = value;
-    let height = higher(height, value_height);
-    let Some((mut trees, tree)) = trees.zip(tree) else {
+    let height = higher(height, value.height);
+    let Some((mut trees, tree)) = trees.zip(tree_of(value)) else {
         return Ok(without_trees(height));
     };
     trees.push(tree)?;

@@ -1,6 +1,6 @@
 //! One function for each form of tree: what a tree is made of is moved into it.
 
-ghost use Rattle.std.specs.Prelude.{◌≡◌, IfOk, map};
+ghost use Rattle.std.specs.Prelude.{◌≡◌, map};
 ghost use Rattle.jd_syntax.specs.JavaTrees as java;
 ghost use Rattle.jd_syntax.specs.JavaTrees.{java_exprs, java_view};
 ghost use Rattle.jd_syntax.specs.JavaTypes.{written_view};
@@ -12,13 +12,11 @@ ghost use Rattle.jd_jexpr.specs.Views.{prefix_view, type_view};
 
 use crate::types::TypeTokens;
 use crate::values::Prefix;
-use jd_base::NoMemory;
 use jd_jtokens::{Assignment, Count, Operator};
 use jd_syntax::{
     AssignmentOperator, CountOperator, Expr, ExprForm, Identifier, InfixOperator, JavaType,
     PrefixOperator, WrittenType,
 };
-use std::alloc::Global;
 
 fn infix_of(operator: Operator) -> InfixOperator
     ensures { result ≡ trees.infix_of (operator_view operator) }
@@ -105,14 +103,8 @@ pub fn written_type(ty: TypeTokens) -> WrittenType
     }
 }
 
-fn boxed(alloc: Global, e: Expr) -> Result<Box<Expr>, NoMemory>
-    ensures { IfOk result (λ b. b.value ≡ e) }
-{
-    Ok(Box::new(alloc, e)?)
-}
-
 /// The offset of an expression's first token.
-fn start(e: &Expr) -> u32
+pub fn begins_at(e: &Expr) -> u32
     ensures { result ≡ at_of (java_view e.now) }
 {
     e.at
@@ -129,26 +121,24 @@ pub fn name_tree(name: Vec<u8>, at: u32) -> Expr
 }
 
 /// `e . x`
-pub fn field_tree(alloc: Global, object: Expr, name: Vec<u8>, at: u32) -> Result<Expr, NoMemory>
-    ensures { IfOk result (λ e. java_view e ≡ trees.field_tree (java_view object) name.items at) }
+pub fn field_tree(object: Box<Expr>, name: Vec<u8>, at: u32) -> Expr
+    ensures { java_view result ≡ trees.field_tree (java_view object.value) name.items at }
 {
-    let start = start(&object);
-    let object = boxed(alloc, object)?;
-    Ok(Expr {
+    let start = begins_at(&object);
+    Expr {
         at: start,
         form: ExprForm::Field(object, Identifier { at, name }),
-    })
+    }
 }
 
 /// `( e )`
-pub fn parenthesized_tree(alloc: Global, at: u32, inner: Expr) -> Result<Expr, NoMemory>
-    ensures { IfOk result (λ e. java_view e ≡ java.Parenthesized at (java_view inner)) }
+pub fn parenthesized_tree(at: u32, inner: Box<Expr>) -> Expr
+    ensures { java_view result ≡ java.Parenthesized at (java_view inner.value) }
 {
-    let inner = boxed(alloc, inner)?;
-    Ok(Expr {
+    Expr {
         at,
         form: ExprForm::Parenthesized(inner),
-    })
+    }
 }
 
 /// `m ( e , .. )`
@@ -162,21 +152,14 @@ pub fn call_tree(name: Vec<u8>, at: u32, arguments: Vec<Expr>) -> Expr
 }
 
 /// `e . m ( e , .. )`
-pub fn method_tree(
-    alloc: Global,
-    object: Expr,
-    name: Vec<u8>,
-    at: u32,
-    arguments: Vec<Expr>,
-) -> Result<Expr, NoMemory>
-    ensures { IfOk result (λ e. java_view e ≡ trees.method_tree (java_view object) name.items at (map java_view arguments.items)) }
+pub fn method_tree(object: Box<Expr>, name: Vec<u8>, at: u32, arguments: Vec<Expr>) -> Expr
+    ensures { java_view result ≡ trees.method_tree (java_view object.value) name.items at (map java_view arguments.items) }
 {
-    let start = start(&object);
-    let object = boxed(alloc, object)?;
-    Ok(Expr {
+    let start = begins_at(&object);
+    Expr {
         at: start,
         form: ExprForm::MethodCall(object, Identifier { at, name }, arguments),
-    })
+    }
 }
 
 /// `new C ( e , .. )`, with the offsets of `new` and of the name.
@@ -191,132 +174,103 @@ pub fn new_tree(at: u32, name: Vec<u8>, name_at: u32, arguments: Vec<Expr>) -> E
 }
 
 /// `new int [ e ]`
-pub fn new_array_tree(alloc: Global, at: u32, length: Expr) -> Result<Expr, NoMemory>
-    ensures { IfOk result (λ e. java_view e ≡ java.NewArray at (java_view length)) }
+pub fn new_array_tree(at: u32, length: Box<Expr>) -> Expr
+    ensures { java_view result ≡ java.NewArray at (java_view length.value) }
 {
-    let length = boxed(alloc, length)?;
-    Ok(Expr {
+    Expr {
         at,
         form: ExprForm::NewArray(length),
-    })
+    }
 }
 
 /// `a [ i ]`
-pub fn index_tree(alloc: Global, array: Expr, place: Expr) -> Result<Expr, NoMemory>
-    ensures { IfOk result (λ e. java_view e ≡ java.Index (at_of (java_view array)) (java_view array) (java_view place)) }
+pub fn index_tree(array: Box<Expr>, place: Box<Expr>) -> Expr
+    ensures { java_view result ≡ java.Index (at_of (java_view array.value)) (java_view array.value) (java_view place.value) }
 {
-    let at = start(&array);
-    let array = boxed(alloc, array)?;
-    let place = boxed(alloc, place)?;
-    Ok(Expr {
+    let at = begins_at(&array);
+    Expr {
         at,
         form: ExprForm::Index(array, place),
-    })
+    }
 }
 
 /// `e ++`
-pub fn postfix_tree(alloc: Global, operand: Expr, count: Count) -> Result<Expr, NoMemory>
-    ensures { IfOk result (λ e. java_view e ≡ java.Postfix (at_of (java_view operand)) (trees.count_of (count_view count)) (java_view operand)) }
+pub fn postfix_tree(operand: Box<Expr>, count: Count) -> Expr
+    ensures { java_view result ≡ java.Postfix (at_of (java_view operand.value)) (trees.count_of (count_view count)) (java_view operand.value) }
 {
-    let at = start(&operand);
+    let at = begins_at(&operand);
     let count = count_of(count);
-    let operand = boxed(alloc, operand)?;
-    Ok(Expr {
+    Expr {
         at,
         form: ExprForm::Postfix(count, operand),
-    })
+    }
 }
 
 /// `- e`
-pub fn prefix_tree(alloc: Global, prefix: Prefix, at: u32, operand: Expr) -> Result<Expr, NoMemory>
-    ensures { IfOk result (λ e. java_view e ≡ java.Prefix at (trees.prefix_of (prefix_view prefix)) (java_view operand)) }
+pub fn prefix_tree(prefix: Prefix, at: u32, operand: Box<Expr>) -> Expr
+    ensures { java_view result ≡ java.Prefix at (trees.prefix_of (prefix_view prefix)) (java_view operand.value) }
 {
     let prefix = prefix_of(prefix);
-    let operand = boxed(alloc, operand)?;
-    Ok(Expr {
+    Expr {
         at,
         form: ExprForm::Prefix(prefix, operand),
-    })
+    }
 }
 
 /// `( T ) e`
-pub fn cast_tree(alloc: Global, at: u32, ty: TypeTokens, operand: Expr) -> Result<Expr, NoMemory>
-    ensures { IfOk result (λ e. java_view e ≡ java.Cast at (trees.written_type (type_view ty)) (java_view operand)) }
+pub fn cast_tree(at: u32, ty: TypeTokens, operand: Box<Expr>) -> Expr
+    ensures { java_view result ≡ java.Cast at (trees.written_type (type_view ty)) (java_view operand.value) }
 {
     let ty = written_type(ty);
-    let operand = boxed(alloc, operand)?;
-    Ok(Expr {
+    Expr {
         at,
         form: ExprForm::Cast(ty, operand),
-    })
+    }
 }
 
 /// `l + r`
-pub fn infix_tree(
-    alloc: Global,
-    operator: Operator,
-    left: Expr,
-    right: Expr,
-) -> Result<Expr, NoMemory>
-    ensures { IfOk result (λ e. java_view e ≡ java.Infix (at_of (java_view left)) (trees.infix_of (operator_view operator)) (java_view left) (java_view right)) }
+pub fn infix_tree(operator: Operator, left: Box<Expr>, right: Box<Expr>) -> Expr
+    ensures { java_view result ≡ java.Infix (at_of (java_view left.value)) (trees.infix_of (operator_view operator)) (java_view left.value) (java_view right.value) }
 {
-    let at = start(&left);
+    let at = begins_at(&left);
     let operator = infix_of(operator);
-    let left = boxed(alloc, left)?;
-    let right = boxed(alloc, right)?;
-    Ok(Expr {
+    Expr {
         at,
         form: ExprForm::Infix(operator, left, right),
-    })
+    }
 }
 
 /// `e instanceof T`
-pub fn instance_tree(alloc: Global, operand: Expr, ty: TypeTokens) -> Result<Expr, NoMemory>
-    ensures { IfOk result (λ e. java_view e ≡ java.InstanceOf (at_of (java_view operand)) (java_view operand) (trees.written_type (type_view ty))) }
+pub fn instance_tree(operand: Box<Expr>, ty: TypeTokens) -> Expr
+    ensures { java_view result ≡ java.InstanceOf (at_of (java_view operand.value)) (java_view operand.value) (trees.written_type (type_view ty)) }
 {
-    let at = start(&operand);
+    let at = begins_at(&operand);
     let ty = written_type(ty);
-    let operand = boxed(alloc, operand)?;
-    Ok(Expr {
+    Expr {
         at,
         form: ExprForm::InstanceOf(operand, ty),
-    })
+    }
 }
 
 /// `c ? a : b`
-pub fn conditional_tree(
-    alloc: Global,
-    condition: Expr,
-    then: Expr,
-    other: Expr,
-) -> Result<Expr, NoMemory>
-    ensures { IfOk result (λ e. java_view e ≡ java.Conditional (at_of (java_view condition)) (java_view condition) (java_view then) (java_view other)) }
+pub fn conditional_tree(condition: Box<Expr>, then: Box<Expr>, other: Box<Expr>) -> Expr
+    ensures { java_view result ≡ java.Conditional (at_of (java_view condition.value)) (java_view condition.value) (java_view then.value) (java_view other.value) }
 {
-    let at = start(&condition);
-    let condition = boxed(alloc, condition)?;
-    let then = boxed(alloc, then)?;
-    let other = boxed(alloc, other)?;
-    Ok(Expr {
+    let at = begins_at(&condition);
+    Expr {
         at,
         form: ExprForm::Conditional(condition, then, other),
-    })
+    }
 }
 
 /// `l = r`
-pub fn assign_tree(
-    alloc: Global,
-    operator: Assignment,
-    target: Expr,
-    value: Expr,
-) -> Result<Expr, NoMemory>
-    ensures { IfOk result (λ e. java_view e ≡ java.Assign (at_of (java_view target)) (trees.assignment_of (assignment_view operator)) (java_view target) (java_view value)) }
+pub fn assign_tree(operator: Assignment, target: Box<Expr>, value: Box<Expr>) -> Expr
+    ensures { java_view result ≡ java.Assign (at_of (java_view target.value)) (trees.assignment_of (assignment_view operator)) (java_view target.value) (java_view value.value) }
 {
-    let at = start(&target);
+    let at = begins_at(&target);
     let operator = assignment_of(operator);
-    let target = boxed(alloc, target)?;
-    let value = boxed(alloc, value)?;
-    Ok(Expr {
+    Expr {
         at,
         form: ExprForm::Assign(operator, target, value),
-    })
+    }
 }

@@ -9,7 +9,6 @@ ghost use Rattle.jd_jexpr.specs.Advances.{answer, answer_view};
 
 use crate::builders::{call, counted, first, index, more, new_array, parenthesized};
 use crate::kinds::{has_elements, has_members, is_target};
-use crate::operators::{is_binary, level_of};
 use crate::reading::{Advance, Frame, Reading, Top};
 use crate::reduce::reduce;
 use crate::stack::{discard, floor, pop};
@@ -17,7 +16,7 @@ use crate::step::goes_on;
 use crate::values::{Kind, Value};
 use crate::want::{have, pushed};
 use jd_base::NoMemory;
-use jd_jtokens::{Assignment, Count, Mark, Operator, Terminal};
+use jd_jtokens::{Assignment, Count, Mark, Operator, Terminal, is_binary, level_of};
 use std::alloc::Global;
 
 // Whether what an operand is allows an operator of a level behind it: `e instanceof T` binds like a comparison.
@@ -265,12 +264,12 @@ fn end_paren(
         }
         Frame::InCall(callee, _) => {
             let arguments = first(alloc, limit, value)?;
-            let whole = call(alloc, limit, callee, arguments)?;
+            let whole = call(alloc, limit, Box::into_inner(callee), arguments)?;
             Ok(Advance::Goes(have(whole, frames)))
         }
         Frame::InArguments(callee, _, list, _) => {
             let arguments = more(limit, list, value)?;
-            let whole = call(alloc, limit, callee, arguments)?;
+            let whole = call(alloc, limit, Box::into_inner(callee), arguments)?;
             Ok(Advance::Goes(have(whole, frames)))
         }
         other => {

@@ -8,7 +8,6 @@ mod have;
 mod kinds;
 mod limits;
 mod named;
-mod operators;
 mod parts;
 mod reading;
 mod reduce;
@@ -20,9 +19,9 @@ mod want;
 
 pub use builders::{
     assigned, binary, call, cast, conditional, constant, counted, empty_call, first, get, index,
-    instance_of, integer, more, new_array, parenthesized, prefixed, this_object,
+    instance_of, integer, more, new_array, parenthesized, prefixed, this_object, tree_of,
 };
-pub use forms::written_type;
+pub use forms::{begins_at, written_type};
 pub use kinds::{has_elements, has_members, is_effect, is_target};
 pub use limits::{higher, over, within};
 pub use reading::{Advance, Frame, Reading, Top, TypeHole};

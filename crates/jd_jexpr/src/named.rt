@@ -8,15 +8,14 @@ ghost use Rattle.jd_jexpr.specs.Advances.{answer, answer_view};
 
 use crate::builders::{get, parenthesized};
 use crate::have::{had, paren_closed};
-use crate::operators::is_unsigned_prefix;
 use crate::reading::{Advance, Frame, Reading, Top};
 use crate::stack::{lower, opening, push};
 use crate::step::goes;
 use crate::types::TypeTokens;
 use crate::values::{Access, Callee, Value};
-use crate::want::{pushed, wanted};
+use crate::want::{called, pushed, wanted};
 use jd_base::NoMemory;
-use jd_jtokens::Terminal;
+use jd_jtokens::{Terminal, is_unsigned_prefix};
 use std::alloc::Global;
 
 // `)` behind a name that is an operand.
@@ -89,7 +88,7 @@ pub(crate) fn named(
 {
     match terminal {
         Terminal::OpenParen => {
-            let frame = Frame::InCall(Callee::Method(access), at);
+            let frame = called(alloc, Callee::Method(access), at)?;
             Ok(Advance::Goes(pushed(frames, frame)?))
         }
         Terminal::CloseParen => access_closed(alloc, limit, access, frames, at),

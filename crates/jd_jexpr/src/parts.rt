@@ -8,7 +8,7 @@ use crate::builders::instance_of;
 use crate::reading::{Frame, Reading, Top, TypeHole};
 use crate::types::{TypeState, TypeTokens, ended_type, is_reference, more_type, start_type};
 use crate::values::{Access, Callee, Value};
-use crate::want::{have, pushed};
+use crate::want::{called, have, pushed};
 use jd_base::{NoMemory, copy_bytes};
 use jd_jtokens::Terminal;
 use std::alloc::Global;
@@ -221,6 +221,7 @@ pub(crate) fn after_new(
 
 /// A token behind `new C` (JLS 15.9).
 pub(crate) fn new_object(
+    alloc: Global,
     limit: u16,
     start: u32,
     name: Vec<u8>,
@@ -234,7 +235,7 @@ pub(crate) fn new_object(
     let Terminal::OpenParen = terminal else {
         return Ok(None);
     };
-    let frame = Frame::InCall(Callee::Constructor(start, name, place), at);
+    let frame = called(alloc, Callee::Constructor(start, name, place), at)?;
     Ok(Some(pushed(frames, frame)?))
 }
 

@@ -3,7 +3,7 @@ use crate::values::{Access, Callee, Prefix, Value, ValueList};
 use jd_jtokens::{Assignment, Operator};
 
 /// What waits for an expression, with the offsets of its tokens.
-#[derive(Debug, Drop)]
+#[derive(Drop)]
 pub enum Frame {
     /// `(`
     InParentheses(u32),
@@ -12,9 +12,9 @@ pub enum Frame {
     /// `new int [`
     InLength(u32, u32, u32),
     /// `f (`
-    InCall(Callee, u32),
+    InCall(Box<Callee>, u32),
     /// `f ( e ,`
-    InArguments(Callee, u32, ValueList, u32),
+    InArguments(Box<Callee>, u32, ValueList, u32),
     /// `c ?`
     AfterQuestion(Value, u32),
     /// `-`
@@ -30,7 +30,7 @@ pub enum Frame {
 }
 
 /// Where a type is read inside an expression.
-#[derive(Debug, Drop)]
+#[derive(Drop)]
 pub enum TypeHole {
     /// `(`
     OfCast(u32),
@@ -39,7 +39,7 @@ pub enum TypeHole {
 }
 
 /// What was read last.
-#[derive(Debug, Drop)]
+#[derive(Drop)]
 pub enum Top {
     /// An operand has to come.
     Want,
@@ -64,7 +64,7 @@ pub enum Top {
 }
 
 /// How far an expression is read: what was read last, and what waits for it, the innermost at the end.
-#[derive(Debug, Drop)]
+#[derive(Drop)]
 pub struct Reading {
     /// What was read last.
     pub top: Top,
@@ -73,7 +73,7 @@ pub struct Reading {
 }
 
 /// What a token does to an expression that is being read.
-#[derive(Debug, Drop)]
+#[derive(Drop)]
 pub enum Advance {
     /// It goes on with that token.
     Goes(Reading),

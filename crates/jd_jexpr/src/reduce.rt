@@ -7,17 +7,16 @@ ghost use Rattle.jd_jexpr.specs.Reduced.{Completes, reduced};
 
 use crate::builders::{assigned, binary, cast, conditional, prefixed};
 use crate::kinds::is_target;
-use crate::operators::level_of;
 use crate::reading::Frame;
 use crate::stack::{pop, push};
 use crate::types::TypeTokens;
 use crate::values::{Prefix, Value};
 use jd_base::NoMemory;
-use jd_jtokens::{Assignment, Operator};
+use jd_jtokens::{Assignment, Operator, binds_looser};
 use std::alloc::Global;
 
 /// What becomes of an operand and of what waits for it.
-#[derive(Debug, Drop)]
+#[derive(Drop)]
 pub enum Completed {
     /// A bracket waits, a colon has to come, or what waits binds looser.
     Waits(Frame, Value),
@@ -79,7 +78,7 @@ fn complete_binary(
 ) -> Result<Completed, NoMemory>
     ensures { IfOk result (λ c. Completes limit level (Frame.AfterBinary operator left at) value c) }
 {
-    if level_of(operator) < level {
+    if binds_looser(operator, level) {
         return Ok(Completed::Waits(Frame::AfterBinary(operator, left, at), value));
     }
     Ok(Completed::Makes(binary(alloc, limit, operator, left, value)?))

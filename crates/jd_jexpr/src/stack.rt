@@ -4,9 +4,9 @@ ghost use Rattle.jd_jtrees.specs.CappedTrees.{capped_trees};
 ghost use Rattle.jd_jexpr.specs.Views.{frame_view, stack_view};
 ghost use Rattle.jd_jexpr.specs.Brackets.{below, opening_of};
 
-use crate::operators::level_of;
 use crate::reading::Frame;
 use jd_base::NoMemory;
+use jd_jtokens::level_of;
 
 /// What waits is put on the stack.
 pub(crate) fn push(frames: &mut Vec<Frame>, frame: Frame) -> Result<(), NoMemory>

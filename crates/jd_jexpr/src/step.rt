@@ -68,7 +68,7 @@ fn continued(
         }
         Top::NewObject(start, name, place) => {
             Ok(goes(
-                new_object(limit, start, name, place, frames, terminal, at)?,
+                new_object(alloc, limit, start, name, place, frames, terminal, at)?,
                 terminal,
             ))
         }

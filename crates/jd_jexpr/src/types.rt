@@ -8,7 +8,7 @@ use jd_jtokens::Terminal;
 use std::alloc::Global;
 
 /// A type with the offsets of its tokens (JLS 4.1).
-#[derive(Debug, Drop)]
+#[derive(Drop)]
 pub enum TypeTokens {
     /// `int`
     Int(u32),
@@ -21,7 +21,7 @@ pub enum TypeTokens {
 }
 
 /// How far a type is read.
-#[derive(Debug, Drop)]
+#[derive(Drop)]
 pub enum TypeState {
     /// Behind `int`.
     AfterInt(u32),

@@ -35,18 +35,18 @@ pub enum Prefix {
 
 /// An expression that was read: what it is, its height, counted up to one above the limit, and its tree, where the
 /// height is within the limit.
-#[derive(Debug, Drop)]
+#[derive(Drop)]
 pub struct Value {
     /// What it is by its form.
     pub kind: Kind,
     /// Its height, at most one above the limit.
     pub height: u32,
     /// Its tree, where nothing in it is higher than the limit.
-    pub tree: Option<Expr>,
+    pub tree: Option<Box<Expr>>,
 }
 
 /// Arguments that were read, the first one at first.
-#[derive(Debug, Drop)]
+#[derive(Drop)]
 pub struct ValueList {
     /// The height of the highest, at most one above the limit.
     pub height: u32,
@@ -55,7 +55,7 @@ pub struct ValueList {
 }
 
 /// A name, or a member of an expression (JLS 6.5, 15.11).
-#[derive(Debug, Drop)]
+#[derive(Drop)]
 pub enum Access {
     /// A name and its offset.
     Own(Vec<u8>, u32),
@@ -64,7 +64,7 @@ pub enum Access {
 }
 
 /// What is called (JLS 15.9, 15.12).
-#[derive(Debug, Drop)]
+#[derive(Drop)]
 pub enum Callee {
     /// A method.
     Method(Access),

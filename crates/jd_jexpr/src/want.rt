@@ -2,16 +2,15 @@ ghost use Rattle.std.specs.Prelude.{◌≡◌, ◌∷◌, IfOk, Some, option_map
 ghost use Rattle.jd_jgrammar.specs.ExpressionReader as reader;
 ghost use Rattle.jd_jtokens.specs.Terminals.{operator_view, terminal_view};
 ghost use Rattle.jd_jtrees.specs.CappedTrees.{capped_trees};
-ghost use Rattle.jd_jexpr.specs.Views.{frame_view, reading_view, stack_view, type_state_view, value_view};
+ghost use Rattle.jd_jexpr.specs.Views.{callee_view, frame_view, reading_view, stack_view, type_state_view, value_view};
 
 use crate::builders::{constant, empty_call, integer, this_object};
-use crate::operators::is_prefix;
 use crate::reading::{Frame, Reading, Top, TypeHole};
 use crate::stack::{discard, pop, push};
 use crate::types::{TypeState, TypeTokens};
-use crate::values::{Access, Prefix, Value};
+use crate::values::{Access, Callee, Prefix, Value};
 use jd_base::{NoMemory, copy_bytes};
-use jd_jtokens::{Operator, Terminal};
+use jd_jtokens::{Operator, Terminal, is_prefix};
 use std::alloc::Global;
 
 /// An operand was read.
@@ -36,6 +35,14 @@ pub(crate) fn pushed(frames: Vec<Frame>, frame: Frame) -> Result<Reading, NoMemo
     })
 }
 
+/// What is called waits for its arguments, behind their bracket.
+pub(crate) fn called(alloc: Global, callee: Callee, at: u32) -> Result<Frame, NoMemory>
+    ensures { IfOk result (λ f. frame_view f ≡ reader.InCall (callee_view callee) at) }
+{
+    let callee = Box::new(alloc, callee)?;
+    Ok(Frame::InCall(callee, at))
+}
+
 // Whether a minus stands before the operand that has to come.
 fn is_behind_minus(limit: u16, frames: &Vec<Frame>) -> bool
     ensures { result ≡ reader.is_behind_minus (capped_trees limit) (stack_view frames.now.items) }
@@ -47,19 +54,25 @@ fn is_behind_minus(limit: u16, frames: &Vec<Frame>) -> bool
 }
 
 // A number, where it is small enough (JLS 3.10.1).
-fn integer_wanted(limit: u16, n: u32, at: u32, frames: Vec<Frame>) -> Option<Reading>
-    ensures { option_map reading_view result ≡ reader.integer_wanted (capped_trees limit) n at (stack_view frames.items) }
+fn integer_wanted(
+    alloc: Global,
+    limit: u16,
+    n: u32,
+    at: u32,
+    frames: Vec<Frame>,
+) -> Result<Option<Reading>, NoMemory>
+    ensures { IfOk result (λ o. option_map reading_view o ≡ reader.integer_wanted (capped_trees limit) n at (stack_view frames.items)) }
 {
     if n < 2_147_483_648 {
-        return Some(have(integer(limit, n, at), frames));
+        return Ok(Some(have(integer(alloc, limit, n, at)?, frames)));
     }
     if n != 2_147_483_648 {
-        return None;
+        return Ok(None);
     }
     if is_behind_minus(limit, &frames) {
-        return Some(have(integer(limit, n, at), frames));
+        return Ok(Some(have(integer(alloc, limit, n, at)?, frames)));
     }
-    None
+    Ok(None)
 }
 
 // `f ( )` (JLS 15.9, 15.12).
@@ -77,7 +90,7 @@ fn end_empty(
     };
     match frame {
         Frame::InCall(callee, _) => {
-            let call = empty_call(alloc, limit, callee)?;
+            let call = empty_call(alloc, limit, Box::into_inner(callee))?;
             Ok(Some(have(call, frames)))
         }
         other => {
@@ -134,14 +147,20 @@ pub(crate) fn wanted(
     ensures { IfOk result (λ o. option_map reading_view o ≡ reader.wanted (capped_trees limit) (stack_view frames.items) (terminal_view terminal.now) at) }
 {
     match terminal {
-        Terminal::Number(n) => Ok(integer_wanted(limit, *n, at, frames)),
+        Terminal::Number(n) => integer_wanted(alloc, limit, *n, at, frames),
         Terminal::Word(word) => {
             let name = copy_bytes(alloc, word)?;
             let top = Top::Named(Access::Own(name, at));
             Ok(Some(Reading { top, frames }))
         }
-        Terminal::Constant(literal) => Ok(Some(have(constant(limit, *literal, at), frames))),
-        Terminal::This => Ok(Some(have(this_object(limit, at), frames))),
+        Terminal::Constant(literal) => {
+            let value = constant(alloc, limit, *literal, at)?;
+            Ok(Some(have(value, frames)))
+        }
+        Terminal::This => {
+            let value = this_object(alloc, limit, at)?;
+            Ok(Some(have(value, frames)))
+        }
         Terminal::New => Ok(Some(Reading {
             top: Top::AfterNew(at),
             frames,

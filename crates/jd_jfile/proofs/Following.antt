@@ -10,7 +10,7 @@ use Rattle.jd_jgrammar.specs.StatementReader as body
 use Rattle.jd_jgrammar.specs.UnitReader as reader
 use Rattle.jd_jtrees.specs.CappedBodies.{CappedStatements, capped_statements}
 use Rattle.jd_jtrees.specs.CappedUnits.{KnownModifiers, CappedClasses, capped_units}
-use Rattle.jd_jbody.specs.Views.{State as BodyState}
+use Rattle.jd_jstates.specs.Views.{State as BodyState}
 use Rattle.jd_jfile.specs.Terminals.{is_close_brace, is_close_paren, is_open_paren, is_package, is_set, is_throws, jml_in}
 use Rattle.jd_jfile.specs.Views.{State, InClass, RoutineOpened, RoutineClosed, PlaceOfModifiers}
 

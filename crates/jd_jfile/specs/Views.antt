@@ -10,7 +10,7 @@ use Rattle.jd_jtrees.specs.CappedUnits.{KnownModifiers, Dropped, CappedMembers, 
 use Rattle.jd_jexpr.specs.Views.{type_view, type_state_view}
 use Rattle.jd_jstatements.specs.Views.{annotation_view, jml_view}
 use Rattle.jd_jmembers.specs.Views.{modifier_view, modifiers_view, gives_view, head_view, members_view, classes_view}
-use Rattle.jd_jbody.specs.Views.{body_view}
+use Rattle.jd_jstates.specs.Views.{body_view}
 use Rattle.jd_jfile.specs.declared.reading.ModifierState.{ModifierState}
 use Rattle.jd_jfile.specs.declared.reading.ModifierState.TheVariants as modifier_states
 use Rattle.jd_jfile.specs.declared.reading.Inside.{Inside}

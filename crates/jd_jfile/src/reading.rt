@@ -1,7 +1,7 @@
-use jd_jbody::BodyReading;
 use jd_jexpr::{TypeState, TypeTokens};
 use jd_jmembers::{ClassHead, Classes, Gives, Members, Modifier, Modifiers};
 use jd_jstatements::Annotation;
+use jd_jstates::BodyReading;
 use jd_syntax::{Identifier, Parameter};
 
 /// How far modifiers are read.

@@ -6,15 +6,16 @@ ghost use Rattle.jd_jgrammar.specs.UnitReader as reader;
 ghost use Rattle.jd_jtokens.specs.Terminals.{terminal_view};
 ghost use Rattle.jd_jtrees.specs.CappedUnits.{capped_units};
 ghost use Rattle.jd_jstatements.specs.Views.{block_view};
-ghost use Rattle.jd_jbody.specs.Views.{body_view};
+ghost use Rattle.jd_jstates.specs.Views.{body_view};
 ghost use Rattle.jd_jfile.specs.Views.{closed_view, file_view, opened_view};
 
 use crate::reading::{Begun, Closed, FileReading, Inside, Kind, Opened};
 use crate::terminals::{is_comma, is_throws, word_in};
 use jd_base::NoMemory;
-use jd_jbody::{BodyReading, ended_body, start_body, step};
+use jd_jbody::{ended_body, start_body, step};
 use jd_jmembers::{Routine, constructor, method};
 use jd_jstatements::Block;
+use jd_jstates::BodyReading;
 use jd_jtokens::Terminal;
 use jd_syntax::Parameter;
 use std::alloc::Global;

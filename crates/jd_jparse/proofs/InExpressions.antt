@@ -12,10 +12,10 @@ use Rattle.jd_jexpr.specs.declared.reading.Reading.{Reading}
 use Rattle.jd_jexpr.specs.declared.values.Value.{Value}
 use Rattle.jd_jexpr.specs.Advances.{Advances}
 use Rattle.jd_jexpr.specs.Views.{reading_view, value_view}
-use Rattle.jd_jbody.specs.declared.reading.BodyReading.{BodyReading}
-use Rattle.jd_jbody.specs.Terminals.{name_turns}
-use Rattle.jd_jbody.specs.Views as bodies
-use Rattle.jd_jbody.specs.Views.{body_view}
+use Rattle.jd_jstates.specs.declared.reading.BodyReading.{BodyReading}
+use Rattle.jd_jstates.specs.Terminals.{name_turns}
+use Rattle.jd_jstates.specs.Views as bodies
+use Rattle.jd_jstates.specs.Views.{body_view}
 use Rattle.jd_jbody.proofs.Ending.{ending, going, it_ends, it_is_refused, refusing}
 use Rattle.jd_jparse.specs.declared.turns.BodyTurn.{BodyTurn}
 use Rattle.jd_jparse.specs.declared.turns.BodyTurn.TheVariants as body_turns

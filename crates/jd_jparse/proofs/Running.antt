@@ -8,10 +8,10 @@ use Rattle.jd_jtokens.specs.declared.placed.Placed.{Placed}
 use Rattle.jd_jtokens.specs.Placed.{placed_view}
 use Rattle.jd_jtrees.specs.CappedBodies.{capped_statements}
 use Rattle.jd_jtrees.specs.CappedUnits.{capped_units}
-use Rattle.jd_jbody.specs.Views as bodies
+use Rattle.jd_jstates.specs.Views as bodies
 use Rattle.jd_jfile.specs.Views.{State, RoutineClosed}
-use Rattle.jd_jbody.specs.declared.reading.BodyReading.{BodyReading}
-use Rattle.jd_jbody.specs.Views.{body_view}
+use Rattle.jd_jstates.specs.declared.reading.BodyReading.{BodyReading}
+use Rattle.jd_jstates.specs.Views.{body_view}
 use Rattle.jd_jparse.specs.declared.turns.BodyTurn.{BodyTurn}
 use Rattle.jd_jparse.specs.declared.turns.BodyTurn.TheVariants as body_turns
 use Rattle.jd_jparse.specs.declared.turns.Turn.{Turn}

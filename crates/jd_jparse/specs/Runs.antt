@@ -4,8 +4,8 @@ use Rattle.jd_jgrammar.specs.Tokens.{Tokens}
 use Rattle.jd_jgrammar.specs.UnitReader as reader
 use Rattle.jd_jtrees.specs.CappedUnits.{Dropped, CappedClasses, capped_units}
 use Rattle.jd_jmembers.specs.Views.{classes_view}
-use Rattle.jd_jbody.specs.Views as bodies
-use Rattle.jd_jbody.specs.Views.{body_view}
+use Rattle.jd_jstates.specs.Views as bodies
+use Rattle.jd_jstates.specs.Views.{body_view}
 use Rattle.jd_jfile.specs.Views.{State, RoutineClosed, file_view}
 use Rattle.jd_jparse.specs.declared.turns.BodyTurn.{BodyTurn}
 use Rattle.jd_jparse.specs.declared.turns.BodyTurn.TheVariants as body_turns

@@ -4,14 +4,15 @@ ghost use Rattle.std.specs.Prelude.{◌≡◌, IfOk, MatchOption, map};
 ghost use Rattle.jd_jgrammar.specs.StatementReader as body;
 ghost use Rattle.jd_jtokens.specs.Placed.{placed_view};
 ghost use Rattle.jd_jexpr.specs.Views.{reading_view};
-ghost use Rattle.jd_jbody.specs.Views.{hole_view, stack_view};
+ghost use Rattle.jd_jstates.specs.Views.{hole_view, stack_view};
 ghost use Rattle.jd_jparse.specs.Runs.{BodyTurned};
 
 use crate::places::{first_high, is_high_expression};
 use crate::turns::BodyTurn;
 use jd_base::NoMemory;
-use jd_jbody::{BodyReading, Frame, Hole, Top, end_value, name_turns, step as step_body};
+use jd_jbody::{end_value, step as step_body};
 use jd_jexpr::{Advance, Reading, advance};
+use jd_jstates::{BodyReading, Frame, Hole, Top, name_turns};
 use jd_jtokens::Placed;
 use std::alloc::Global;
 

@@ -1,8 +1,8 @@
 //! Where something gets too high: no tree is kept of what was read last.
 
-use jd_jbody::{BodyReading, Top};
 use jd_jexpr::{Reading, Top as ExpressionTop};
 use jd_jfile::FileReading;
+use jd_jstates::{BodyReading, Top};
 
 /// Whether what was read last in an expression is higher than the limit.
 pub(crate) fn is_high_expression(reading: &Reading) -> bool {

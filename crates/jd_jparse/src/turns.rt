@@ -2,15 +2,16 @@
 
 ghost use Rattle.std.specs.Prelude.{◌<◌, length, IfOk, map};
 ghost use Rattle.jd_jtokens.specs.Placed.{placed_view};
-ghost use Rattle.jd_jbody.specs.Views.{body_view};
+ghost use Rattle.jd_jstates.specs.Views.{body_view};
 ghost use Rattle.jd_jfile.specs.Views.{file_view};
 ghost use Rattle.jd_jparse.specs.Runs.{BodyTurned, Turned};
 
 use crate::expressions::{read_expression, turn_to};
 use crate::places::{first_high, is_high, is_high_body};
 use jd_base::NoMemory;
-use jd_jbody::{BodyReading, Top, is_whole, step as step_body};
+use jd_jbody::{is_whole, step as step_body};
 use jd_jfile::{Closed, FileReading, body_goes_on, step};
+use jd_jstates::{BodyReading, Top};
 use jd_jtokens::Placed;
 use std::alloc::Global;
 

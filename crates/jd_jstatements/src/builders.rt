@@ -11,7 +11,7 @@ use crate::forms::{
 use crate::heads::{listed_trees, optional_tree};
 use crate::values::{Annotation, Jump, Label, Statement};
 use jd_base::NoMemory;
-use jd_jexpr::{Value, ValueList, higher, over, within};
+use jd_jexpr::{Value, ValueList, higher, over, tree_of, within};
 use jd_syntax::{Stmt, StmtForm};
 use std::alloc::Global;
 
@@ -49,12 +49,7 @@ pub fn empty(limit: u16, at: u32) -> Statement
 pub fn evaluated(limit: u16, value: Value) -> Statement
     ensures { statement_view result ≡ (capped_statements limit).evaluated (value_view value) 0 }
 {
-    let Value {
-        kind: _,
-        height: _,
-        tree,
-    } = value;
-    match tree {
+    match tree_of(value) {
         Some(tree) => with_tree(0, evaluate_tree(tree)),
         None => without_tree(0),
     }
@@ -91,14 +86,9 @@ pub fn if_then(
 ) -> Result<Statement, NoMemory>
     ensures { IfOk result (λ s. statement_view s ≡ (capped_statements limit).if_then at 0 (value_view condition) 0 (statement_view then)) }
 {
-    let Value {
-        kind: _,
-        height: _,
-        tree: condition,
-    } = condition;
     let Statement { height, tree } = then;
     let height = over(limit, height);
-    let both = condition.zip(tree);
+    let both = tree_of(condition).zip(tree);
     let Some((condition, then)) = within(limit, height, both) else {
         return Ok(without_tree(height));
     };
@@ -117,18 +107,13 @@ pub fn if_else(
 ) -> Result<Statement, NoMemory>
     ensures { IfOk result (λ s. statement_view s ≡ (capped_statements limit).if_else at 0 (value_view condition) 0 (statement_view then) 0 (statement_view other)) }
 {
-    let Value {
-        kind: _,
-        height: _,
-        tree: condition,
-    } = condition;
     let Statement { height, tree } = then;
     let Statement {
         height: other_height,
         tree: other_tree,
     } = other;
     let height = over(limit, higher(height, other_height));
-    let all = condition.zip(tree).zip(other_tree);
+    let all = tree_of(condition).zip(tree).zip(other_tree);
     let Some(((condition, then), other)) = within(limit, height, all) else {
         return Ok(without_tree(height));
     };
@@ -147,14 +132,9 @@ pub fn while_loop(
 ) -> Result<Statement, NoMemory>
     ensures { IfOk result (λ s. statement_view s ≡ (capped_statements limit).while_loop (annotation_view annotation) at 0 (value_view condition) 0 (statement_view body)) }
 {
-    let Value {
-        kind: _,
-        height: _,
-        tree: condition,
-    } = condition;
     let Statement { height, tree } = body;
     let height = over(limit, height);
-    let both = condition.zip(tree);
+    let both = tree_of(condition).zip(tree);
     let Some((condition, body)) = within(limit, height, both) else {
         return Ok(without_tree(height));
     };
@@ -184,12 +164,7 @@ pub fn returned(limit: u16, at: u32, value: Option<Value>) -> Statement
 pub fn thrown(limit: u16, at: u32, value: Value) -> Statement
     ensures { statement_view result ≡ (capped_statements limit).thrown at (value_view value) 0 }
 {
-    let Value {
-        kind: _,
-        height: _,
-        tree,
-    } = value;
-    match tree {
+    match tree_of(value) {
         Some(tree) => with_tree(0, throw_tree(at, tree)),
         None => without_tree(0),
     }

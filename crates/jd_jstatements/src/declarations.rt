@@ -11,7 +11,7 @@ use crate::builders::{with_tree, without_tree};
 use crate::forms::local_tree;
 use crate::values::{Declared, Initial, Names, Statement};
 use jd_base::NoMemory;
-use jd_jexpr::{TypeTokens, Value, written_type};
+use jd_jexpr::{TypeTokens, tree_of, written_type};
 use jd_syntax::{Declarator, Identifier};
 use std::alloc::Global;
 
@@ -57,12 +57,7 @@ fn declarator(declared: Declared) -> Option<Declarator>
     let Some(Initial { assigns: _, value }) = initial else {
         return Some(Declarator { name, value: None });
     };
-    let Value {
-        kind: _,
-        height: _,
-        tree,
-    } = value;
-    match tree {
+    match tree_of(value) {
         Some(tree) => Some(Declarator {
             name,
             value: Some(tree),

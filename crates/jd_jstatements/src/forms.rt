@@ -11,6 +11,7 @@ ghost use Rattle.jd_jstatements.specs.Views.{annotation_view, catch_view, java_h
 
 use crate::values::{Annotation, CatchHead, Jump, Label};
 use jd_base::NoMemory;
+use jd_jexpr::begins_at;
 use jd_syntax::{
     Declarator, Expr, ForStart, Handler, Identifier, SpecBlock, SpecPlace, Stmt, StmtForm,
     WrittenType,
@@ -62,7 +63,7 @@ pub(crate) fn local_tree(at: u32, ty: WrittenType, names: Vec<Declarator>) -> St
 pub(crate) fn evaluate_tree(value: Expr) -> Stmt
     ensures { java_stmt_view result ≡ java.Evaluate (at_of (java_view value)) (java_view value) }
 {
-    let at = value.at;
+    let at = begins_at(&value);
     Stmt {
         at,
         form: StmtForm::Evaluate(value),

@@ -10,7 +10,7 @@ use crate::builders::{with_tree, without_tree};
 use crate::forms::{for_tree, loop_block};
 use crate::values::{ForHead, ForOpen, Names, Statement};
 use jd_base::NoMemory;
-use jd_jexpr::{TypeTokens, Value, ValueList, over, within, written_type};
+use jd_jexpr::{TypeTokens, Value, ValueList, over, tree_of, within, written_type};
 use jd_syntax::{Expr, ForStart};
 use std::alloc::Global;
 
@@ -21,12 +21,7 @@ pub(crate) fn optional_tree(value: Option<Value>) -> Option<Option<Expr>>
     let Some(value) = value else {
         return Some(None);
     };
-    let Value {
-        kind: _,
-        height: _,
-        tree,
-    } = value;
-    match tree {
+    match tree_of(value) {
         Some(tree) => Some(Some(tree)),
         None => None,
     }

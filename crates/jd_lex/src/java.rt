@@ -109,7 +109,7 @@ fn java_tokens(alloc: Global, bytes: &[u8]) -> Result<Vec<Token>, LexRefusal>
     requires { length bytes.now ≤ 1048576 }
     ensures { Lexes bytes.now result }
 {
-    let mut out = Vec::new(alloc);
+    let mut out = Vec::with_capacity(alloc, bytes.len())?;
     let mut rest = bytes;
     let mut here = 0;
     while !rest.is_empty() {

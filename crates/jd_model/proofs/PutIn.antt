@@ -1,25 +1,19 @@
 -- A formula put below the one of a number.
-use Rattle.std.proofs.Common.{◌≡◌, ℕ, zero, suc, ◌+◌, ◌<◌, ◌≤◌, List, [], ◌∷◌, ◌++◌, length, map, take, drop, get_or, Option, Some, None, refl, sym, ap, ◌∙◌, arith, add-one, append_assoc}
+use Rattle.std.proofs.Common.{◌≡◌, ℕ, zero, suc, ◌+◌, ◌<◌, ◌≤◌, List, [], ◌∷◌, length, map, get_or, slice_set, Option, Some, None, refl, sym, ap, ◌∙◌, arith, add-one}
 use Rattle.std.specs.Prelude.{option_and_then}
 use Rattle.std.proofs.lemmas.Option.{slice_get_within}
 use Rattle.jd_term.specs.declared.formula.Formula.{Formula}
 use Rattle.jd_term.specs.Formulas.{PlainFormula, formula_view}
 use Rattle.jd_model.specs.Places.{Part, FormulaPart, part_at, numbered, put_formula, put_in}
 
-put_in_parts : (fs : List Formula) (k : ℕ) (path : List ℕ) (new : PlainFormula) (f : Formula) → f ≡ get_or fs k f → k < length fs → put_in (map formula_view fs) (suc k) path new ≡ map formula_view (take k fs) ++ put_formula path new (formula_view f) ∷ map formula_view (drop (suc k) fs)
-put_in_parts [] k path new f e lt = absurd (omega arith)
-put_in_parts (g ∷ fs) zero path new f e lt = ap (λ (h : Formula). put_formula path new (formula_view h) ∷ map formula_view fs) (sym e)
-put_in_parts (g ∷ fs) (suc k) path new f e lt = ap (λ l. formula_view g ∷ l) (put_in_parts fs k path new f e (omega arith))
+set_below : (fs : List Formula) (k : ℕ) (path : List ℕ) (new : PlainFormula) (f x : Formula) → f ≡ get_or fs k f → k < length fs → formula_view x ≡ put_formula path new (formula_view f) → map formula_view (slice_set fs k x) ≡ put_in (map formula_view fs) (suc k) path new
+set_below [] k path new f x e lt c = absurd (omega arith)
+set_below (g ∷ fs) zero path new f x e lt c = ap (λ a. a ∷ map formula_view fs) (c ∙ ap (λ (h : Formula). put_formula path new (formula_view h)) e)
+set_below (g ∷ fs) (suc k) path new f x e lt c = ap (λ l. formula_view g ∷ l) (set_below fs k path new f x e (omega arith) c)
 
--- the formulas before the place, the changed one, and those behind it
-pub put_in_whole : (fs : List Formula) (n k : ℕ) (path : List ℕ) (new changed : PlainFormula) (f : Formula) (made : List PlainFormula) → n ≡ k + 1 → f ≡ get_or fs k f → k < length fs → changed ≡ put_formula path new (formula_view f) → made ≡ (map formula_view (take k fs) ++ changed ∷ []) ++ map formula_view (drop (k + 1) fs) → made ≡ put_in (map formula_view fs) n path new
-put_in_whole fs n k path new changed f made is e lt c m =
-    m
-    ∙ append_assoc (map formula_view (take k fs)) (changed ∷ []) (map formula_view (drop (k + 1) fs))
-    ∙ ap (λ g. map formula_view (take k fs) ++ g ∷ map formula_view (drop (k + 1) fs)) c
-    ∙ ap (λ j. map formula_view (take k fs) ++ put_formula path new (formula_view f) ∷ map formula_view (drop j fs)) (add-one k)
-    ∙ sym (put_in_parts fs k path new f e lt)
-    ∙ ap (λ j. put_in (map formula_view fs) j path new) (sym (add-one k) ∙ sym is)
+-- the changed formula in its place
+pub changed_in_place : (fs : List Formula) (n k : ℕ) (path : List ℕ) (new : PlainFormula) (f x : Formula) → n ≡ k + 1 → f ≡ get_or fs k f → k < length fs → formula_view x ≡ put_formula path new (formula_view f) → map formula_view (slice_set fs k x) ≡ put_in (map formula_view fs) n path new
+changed_in_place fs n k path new f x is e lt c = set_below fs k path new f x e lt c ∙ ap (λ j. put_in (map formula_view fs) j path new) (sym (add-one k) ∙ sym is)
 
 numbered_within : (xs : List PlainFormula) (n : ℕ) (x : PlainFormula) → numbered xs n ≡ Some x → (0 < n) × (n ≤ length xs)
 numbered_within xs zero x e = absurd (no e)

@@ -116,38 +116,23 @@ pub fn copy_formulas(alloc: Global, formulas: &[Formula]) -> Result<Vec<Formula>
     Ok(out)
 }
 
-// Adds copies of the formulas.
-fn extend(out: &mut Vec<Formula>, alloc: Global, formulas: &[Formula]) -> Result<(), NoMemory>
-    ensures { OnOk result (map formula_view out.new.items ≡ map formula_view out.old.items ++ map formula_view formulas.now) }
-{
-    for formula in formulas {
-        out.push(formula.copy(alloc)?)?;
-    }
-    Ok(())
-}
-
 // The formulas of a side with another one below the formula of this number.
 fn put_side(
     alloc: Global,
-    formulas: &[Formula],
+    mut formulas: Vec<Formula>,
     index: u32,
     path: &[u32],
     new: Formula,
 ) -> Result<Vec<Formula>, NoMemory>
     requires some { 0 < index }
-    requires within { index ≤ length formulas.now }
+    requires within { index ≤ length formulas.items }
     ensures { IfOk result
-        (λ v. map formula_view v.items ≡ put_in (map formula_view formulas.now) index path.now (formula_view new)) }
+        (λ v. map formula_view v.items ≡ put_in (map formula_view formulas.items) index path.now (formula_view new)) }
 {
     let place = index as usize - 1;
     let changed = put(alloc, path, new, &formulas[place])?;
-    let (front, _) = formulas.split_at(place);
-    let (_, back) = formulas.split_at(index as usize);
-    let mut out = Vec::with_capacity(alloc, formulas.len())?;
-    extend(&mut out, alloc, front)?;
-    out.push(changed)?;
-    extend(&mut out, alloc, back)?;
-    Ok(out)
+    formulas[place] = changed;
+    Ok(formulas)
 }
 
 impl Sequent {
@@ -161,26 +146,25 @@ impl Sequent {
     }
 }
 
-/// The sequent with another formula at a place where a formula stands.
+/// The sequent with another formula at a place where a formula stands. The formulas that stay are moved.
 pub fn put_at_place(
     alloc: Global,
-    sequent: &Sequent,
+    sequent: Sequent,
     place: &Place,
     new: Formula,
 ) -> Result<Sequent, NoMemory>
-    requires { IsFormulaPlace (sequent_view sequent.now) (place_view place.now) }
+    requires { IsFormulaPlace (sequent_view sequent) (place_view place.now) }
     ensures { IfOk result
-        (λ s. sequent_view s ≡ put_at (sequent_view sequent.now) (place_view place.now) (formula_view new)) }
+        (λ s. sequent_view s ≡ put_at (sequent_view sequent) (place_view place.now) (formula_view new)) }
 {
+    let Sequent { left, right } = sequent;
     match place.side {
         Side::Left => {
-            let left = put_side(alloc, &sequent.left, place.index, &place.path, new)?;
-            let right = copy_formulas(alloc, &sequent.right)?;
+            let left = put_side(alloc, left, place.index, &place.path, new)?;
             Ok(Sequent { left, right })
         }
         Side::Right => {
-            let left = copy_formulas(alloc, &sequent.left)?;
-            let right = put_side(alloc, &sequent.right, place.index, &place.path, new)?;
+            let right = put_side(alloc, right, place.index, &place.path, new)?;
             Ok(Sequent { left, right })
         }
     }
@@ -198,5 +182,6 @@ pub fn replace_at(
         (λ s. sequent_view s ≡ put_at (sequent_view sequent.now) (place_view place.now) (formula_view with.now)) }
 {
     let new = with.copy(alloc)?;
+    let sequent = sequent.copy(alloc)?;
     put_at_place(alloc, sequent, place, new)
 }

@@ -14,7 +14,7 @@ use crate::names::NameTexts;
 use jd_base::{ClassId, FieldId, MethodId, NoMemory, Sort};
 use jd_syntax::{BinaryOp, Kind, UnaryOp, VarId};
 use jd_term::{ArithmeticOp, Modality};
-use jd_written::Written;
+use jd_written::{Written, add_number};
 use std::alloc::Global;
 
 pub(crate) fn sort_word(sort: Sort) -> &'static [u8]
@@ -105,12 +105,9 @@ pub(crate) fn begin(out: &mut Written, word: &[u8]) -> Result<(), NoMemory>
 fn write_marked(alloc: Global, out: &mut Written, mark: u8, n: u32) -> Result<(), NoMemory>
     ensures { OnOk result (out.new ≡ write out.old (Word (mark ∷ number_text n))) }
 {
-    let mut number = Written::new(alloc);
-    number.number(u64::from(n))?;
-    let digits = number.into_bytes();
     let mut word = Vec::new(alloc);
     word.push(mark)?;
-    word.extend_from_slice(&digits)?;
+    add_number(&mut word, u64::from(n))?;
     out.word(&word)
 }
 

@@ -59,7 +59,7 @@ fn replayed<R: RuleSet>(
             continue;
         };
         steps += 1;
-        let premises = match rules.apply(alloc, task, &sequent, step) {
+        let premises = match rules.apply_to(alloc, task, sequent, step) {
             Ok(premises) => premises,
             Err(bad) => return refused(bad, steps),
         };

@@ -1,17 +1,17 @@
 -- What is written for a file is spelled so.
-use Rattle.std.proofs.Common.{◌≡◌, ℕ, true, List, [], ◌∷◌, ◌++◌, map, codes, refl, sym, ap, ◌∙◌}
+use Rattle.std.proofs.Common.{◌≡◌, ℕ, true, List, [], ◌∷◌, map, codes, refl, sym, ap, ◌∙◌}
 use Rattle.jd_bracketed.specs.Tokens.{Open, Close, Word}
 use Rattle.jd_sequent.specs.Trees.{PlainNode, are_trees, tree_of}
 use Rattle.jd_sequent.specs.Steps.{node_view}
-use Rattle.jd_written.specs.Written.{Text, empty_text, text_of, write, write_all}
+use Rattle.jd_written.specs.Written.{Text, empty_text, write, write_all}
 use Rattle.jd_written.proofs.Writing.{write_all-append, written_all}
 use Rattle.jd_scripts.specs.Places.{decimal}
-use Rattle.jd_scripts.specs.Scripts.{PlainProof, spell_file, spell_proof, spell_proofs, spell_tree}
+use Rattle.jd_scripts.specs.Scripts.{spell_file, spell_proof, spell_proofs, spell_tree}
 use Rattle.jd_script.specs.ProofViews.{proof_of, proof_view}
 use Rattle.jd_script.specs.declared.proof.Proof.{Proof}
 use Rattle.jd_script_print.specs.Laws.{file_of, script_text}
 use Rattle.jd_script_print.specs.Views.{named_nodes}
-use Rattle.jd_script_print.specs.Writing.{OpenSteps, end_tree, put_file, put_nodes, put_proof, put_proofs}
+use Rattle.jd_script_print.specs.Writing.{OpenSteps, put_file, put_nodes, put_proof, put_proofs}
 use Rattle.jd_script_print.proofs.Forests.{tree_nodes}
 use Rattle.jd_script_print.proofs.TreeText.{tree_written}
 

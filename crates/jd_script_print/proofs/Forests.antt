@@ -1,8 +1,7 @@
 -- Nodes that are one tree are that tree's, in preorder.
-use Rattle.std.proofs.Common.{◌≡◌, ℕ, zero, suc, ◌+◌, ◌==◌, Bool, true, false, List, [], ◌∷◌, ◌++◌, Option, Some, None, refl, sym, ap, ◌∙◌, append_assoc, arith}
+use Rattle.std.proofs.Common.{◌≡◌, ℕ, zero, suc, ◌+◌, true, List, [], ◌∷◌, ◌++◌, Option, Some, None, refl, sym, ap, ◌∙◌, append_assoc, arith}
 use Rattle.std.proofs.lemmas.Bool.{and_parts, eqb-true, false≢true}
-use Rattle.std.proofs.lemmas.List.{append-nil}
-use Rattle.jd_sequent.specs.Trees.{PlainNode, PlainStep, ProofTree, ProofTrees, OpenLeaf, ByStep, NoTrees, TreeThen, after_trees, are_trees, count_trees, first_trees, forest, head_tree, leaf_is_bare, preorder, preorder_all, tree_at, tree_of}
+use Rattle.jd_sequent.specs.Trees.{PlainNode, PlainStep, ProofTrees, NoTrees, TreeThen, after_trees, are_trees, count_trees, first_trees, forest, head_tree, leaf_is_bare, preorder, preorder_all, tree_at, tree_of}
 
 count_first : (c k : ℕ) (ts : ProofTrees) → count_trees ts ≡ k + c → count_trees (first_trees c ts) ≡ c
 count_first zero k ts e = refl

@@ -3,4 +3,5 @@ mod Forests
 mod Parts
 mod TreeText
 mod FileText
+mod ProperTokens
 mod Readback

@@ -1,5 +1,5 @@
 -- What is written for the parts of a step is spelled so.
-use Rattle.std.proofs.Common.{◌≡◌, ℕ, List, [], ◌∷◌, ◌++◌, Option, map, refl, sym, ap, ◌∙◌}
+use Rattle.std.proofs.Common.{◌≡◌, List, [], ◌∷◌, ◌++◌, Option, map, refl, sym, ap, ◌∙◌}
 use Rattle.jd_syntax.specs.Sxs.{Bracketed, Atom, Brackets, BracketedList, NoneBracketed, BracketedThen}
 use Rattle.jd_bracketed.specs.Tokens.{Open, Close, OpenSquare, CloseSquare, Word}
 use Rattle.jd_bracketed.specs.Trees.{spell, spell_all}

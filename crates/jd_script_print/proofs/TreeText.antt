@@ -1,12 +1,12 @@
 -- The nodes of a tree, written one after the other, are written as the tree is spelled.
-use Rattle.std.proofs.Common.{◌≡◌, ℕ, zero, suc, ◌+◌, ◌-◌, ◌<◌, nat_lt, cond, List, [], ◌∷◌, ◌++◌, Some, None, refl, sym, ap, ◌∙◌, append_assoc, arith}
+use Rattle.std.proofs.Common.{◌≡◌, ℕ, zero, suc, ◌+◌, ◌-◌, ◌<◌, cond, List, [], ◌∷◌, ◌++◌, refl, sym, ap, ◌∙◌, append_assoc, arith}
 use Rattle.std.proofs.lemmas.Bool.{lt-ltb}
 use Rattle.jd_bracketed.specs.Tokens.{TokenKind, Close}
-use Rattle.jd_sequent.specs.Trees.{PlainNode, PlainStep, ProofTree, ProofTrees, OpenLeaf, ByStep, NoTrees, TreeThen, count_trees, preorder, preorder_all}
+use Rattle.jd_sequent.specs.Trees.{PlainNode, ProofTree, ProofTrees, OpenLeaf, ByStep, NoTrees, TreeThen, count_trees, preorder, preorder_all}
 use Rattle.jd_written.specs.Written.{Text, write, write_all}
 use Rattle.jd_written.proofs.Writing.{write_all-append}
 use Rattle.jd_scripts.specs.Scripts.{spell_step, spell_tree, spell_trees}
-use Rattle.jd_script_print.specs.Writing.{OpenSteps, end_tree, open_step, put_node, put_nodes, put_step}
+use Rattle.jd_script_print.specs.Writing.{OpenSteps, end_tree, open_step, put_nodes, put_step}
 use Rattle.jd_script_print.proofs.Parts.{step_written}
 
 abbrev ends : Text → List TokenKind → List ℕ → OpenSteps

@@ -23,5 +23,9 @@ pub record PrintedIsRead : Type 0 where
   pub read : (limits : Limits) (proofs : List PlainProof) → AreSpelled limits proofs → IsAnswer limits (tokens_of (script_text proofs)) (Proofs proofs)
   -- proofs that were read have the tokens that were read
   pub tokens : (limits : Limits) (placed : List Placed) (proofs : List PlainProof) → IsAnswer limits placed (Proofs proofs) → kinds placed ≡ spell_file (file_of proofs)
+  -- what was read can be printed: its tokens are brackets and words
+  pub spelled : (steps levels : ℕ) (bytes : List ℕ) (proofs : List PlainProof) → IsAnswer (limits_of steps levels) (tokens_of bytes) (Proofs proofs) → AreSpelled (limits_of steps levels) proofs
+  -- the printed text has the tokens that were read: it is the same text, up to white space and comments
+  pub same_tokens : (steps levels : ℕ) (bytes : List ℕ) (proofs : List PlainProof) → IsAnswer (limits_of steps levels) (tokens_of bytes) (Proofs proofs) → kinds (tokens_of (script_text proofs)) ≡ kinds (tokens_of bytes)
   -- no two have one text
   pub one_text : (steps levels : ℕ) (ps qs : List PlainProof) → AreSpelled (limits_of steps levels) ps → AreSpelled (limits_of steps levels) qs → script_text ps ≡ script_text qs → ps ≡ qs

@@ -10,31 +10,27 @@ ghost use Rattle.jd_script_print.specs.Writing as writing;
 
 use jd_base::NoMemory;
 use jd_model::{Place, Side};
-use jd_written::Written;
+use jd_written::{Written, add_number};
 use std::alloc::Global;
 
 // Adds the digits of a positive number; 0, which stands in no place, has none.
 #[tactic(auto, using(crate::proofs::Decimals::digits))]
-fn add_number(alloc: Global, word: &mut Vec<u8>, n: u32) -> Result<(), NoMemory>
+fn add_decimal(word: &mut Vec<u8>, n: u32) -> Result<(), NoMemory>
     ensures { OnOk result (word.new.items ≡ word.old.items ++ decimal n) }
 {
     if n == 0 {
         return Ok(());
     }
-    let mut number = Written::new(alloc);
-    number.number(u64::from(n))?;
-    let digits = number.into_bytes();
-    word.extend_from_slice(&digits)?;
-    Ok(())
+    add_number(word, u64::from(n))
 }
 
 // Adds numbers of children, each behind a dot.
-fn add_path(alloc: Global, word: &mut Vec<u8>, path: &[u32]) -> Result<(), NoMemory>
+fn add_path(word: &mut Vec<u8>, path: &[u32]) -> Result<(), NoMemory>
     ensures { OnOk result (word.new.items ≡ word.old.items ++ written_path path.now) }
 {
     for child in path {
         word.push(b'.')?;
-        add_number(alloc, word, *child)?;
+        add_decimal(word, *child)?;
     }
     Ok(())
 }
@@ -61,8 +57,8 @@ pub(crate) fn write_place(
     };
     let mut word = Vec::new(alloc);
     word.push(letter_of(&place.side))?;
-    add_number(alloc, &mut word, place.index)?;
-    add_path(alloc, &mut word, &place.path)?;
+    add_decimal(&mut word, place.index)?;
+    add_path(&mut word, &place.path)?;
     out.word(&word)
 }
 

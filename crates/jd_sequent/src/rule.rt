@@ -37,6 +37,22 @@ pub trait RuleSet {
             (λ premises. LeadsWithinLimits (instance self.now (task_view task.now)) (sequent_view sequent.now) (step_view step.now) (map sequent_view premises.items))
             (λ bad. IsCaused (cause self.now (task_view task.now) (sequent_view sequent.now) (step_view step.now)) bad) };
 
+    /// The same where the sequent is no longer wanted: a set of rules may move what the step leaves as it is.
+    fn apply_to(
+        &self,
+        alloc: Global,
+        task: &Task<'_>,
+        sequent: Sequent,
+        step: &Step,
+    ) -> Result<Vec<Sequent>, Bad>
+        requires { accepts self.now (task_view task.now) (sequent_view sequent) }
+        ensures { MatchResult result
+            (λ premises. LeadsWithinLimits (instance self.now (task_view task.now)) (sequent_view sequent) (step_view step.now) (map sequent_view premises.items))
+            (λ bad. IsCaused (cause self.now (task_view task.now) (sequent_view sequent) (step_view step.now)) bad) }
+    {
+        self.apply(alloc, task, &sequent, step)
+    }
+
     /// An instance is sound: in each program that the task's tables stand for, at each depth and measure
     /// at which the contracts are usable, the sequent is valid where the premises are.
     ghost sound: { (r : Self) (t : PlainTask) (s : PlainSequent) (p : PlainStep) (ps : List PlainSequent) → accepts r t s → instance r t s p ps → StepIsSound t s ps };

@@ -1,25 +1,14 @@
 ghost use Rattle.std.specs.Prelude.{◌≡◌, ◌++◌, IfOk, OnOk, map};
 ghost use Rattle.jd_term.specs.Formulas.{formula_view};
 ghost use Rattle.jd_model.specs.Sequents.{sequent_view};
-ghost use Rattle.jd_written.specs.Written.{number_text};
 ghost use Rattle.jd_sequent_print.specs.Lines.{line, lines, sequent_text};
 
 use jd_base::NoMemory;
 use jd_model::Sequent;
 use jd_print::{NameTexts, print_formula};
 use jd_term::Formula;
-use jd_written::Written;
+use jd_written::add_number;
 use std::alloc::Global;
-
-fn add_number(alloc: Global, out: &mut Vec<u8>, n: u64) -> Result<(), NoMemory>
-    ensures { OnOk result (out.new.items ≡ out.old.items ++ number_text n) }
-{
-    let mut number = Written::new(alloc);
-    number.number(n)?;
-    let digits = number.into_bytes();
-    out.extend_from_slice(&digits)?;
-    Ok(())
-}
 
 // Adds `L1 F` and a line feed.
 fn add_line<N: NameTexts>(
@@ -34,7 +23,7 @@ fn add_line<N: NameTexts>(
 {
     let text = print_formula(alloc, formula, names)?;
     out.push(letter)?;
-    add_number(alloc, out, index)?;
+    add_number(out, index)?;
     out.push(b' ')?;
     out.extend_from_slice(&text)?;
     out.push(b'\n')?;

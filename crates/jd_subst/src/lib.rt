@@ -1,7 +1,6 @@
 //! Terms put for bound variables, and constants and program variables replaced by terms.
 #![tactic(auto)]
 
-mod both;
 mod renaming;
 mod substitution;
 

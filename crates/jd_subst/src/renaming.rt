@@ -5,8 +5,7 @@ ghost use Rattle.jd_term.specs.Renamings.{FirstOrder, IsRenaming, both_views, pu
 ghost use Rattle.jd_term.specs.TermViews.{loc_view, term_view};
 ghost use Rattle.std.specs.Prelude.{◌≡◌, IfOk, map};
 
-use crate::both::both;
-use jd_base::NoMemory;
+use jd_base::{NoMemory, both};
 use jd_term::{
     Formula, Loc, Term, boxed_formula, boxed_loc, boxed_term, is_same, is_same_constant,
 };

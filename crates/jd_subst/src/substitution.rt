@@ -7,8 +7,7 @@ ghost use Rattle.jd_term.specs.Terms.{sort_of_term};
 ghost use Rattle.jd_term.specs.TermViews.{loc_view, term_view};
 ghost use Rattle.std.specs.Prelude.{◌≡◌, ◌+◌, ◌<◌, ◌^◌, IfOk, map};
 
-use crate::both::both;
-use jd_base::{NoMemory, Sort};
+use jd_base::{NoMemory, Sort, both};
 use jd_term::{
     Elementary, Formula, Loc, Term, Update, boxed_formula, boxed_loc, boxed_term, shift_term,
 };

@@ -8,7 +8,7 @@ ghost use Rattle.std.specs.Prelude.{◌≡◌, IfOk, map, option_map};
 use crate::code::{Code, CodeExpr, CodeStmt};
 use crate::sx::Sx;
 use crate::variable::{VarDecl, VarId};
-use jd_base::{NoMemory, copy_bytes};
+use jd_base::{NoMemory, both, copy_bytes};
 use std::alloc::Global;
 
 impl VarId {
@@ -101,41 +101,55 @@ impl CodeStmt {
         ensures { IfOk result (λ s. stmt_view s ≡ stmt_view self.now) }
     {
         match self {
-            CodeStmt::Set(v, a) => Ok(CodeStmt::Set(v.copy(alloc)?, a.copy(alloc)?)),
-            CodeStmt::WriteField(a, f, b) => Ok(CodeStmt::WriteField(
-                a.copy(alloc)?,
-                *f,
-                b.copy(alloc)?,
-            )),
-            CodeStmt::WriteElement(a, b, c) => Ok(CodeStmt::WriteElement(
-                a.copy(alloc)?,
-                b.copy(alloc)?,
-                c.copy(alloc)?,
-            )),
+            CodeStmt::Set(v, a) => {
+                let (v, a) = both(v.copy(alloc), a.copy(alloc))?;
+                Ok(CodeStmt::Set(v, a))
+            }
+            CodeStmt::WriteField(a, f, b) => {
+                let (a, b) = both(a.copy(alloc), b.copy(alloc))?;
+                Ok(CodeStmt::WriteField(a, *f, b))
+            }
+            CodeStmt::WriteElement(a, b, c) => {
+                let (a, (b, c)) = both(a.copy(alloc), both(b.copy(alloc), c.copy(alloc)))?;
+                Ok(CodeStmt::WriteElement(a, b, c))
+            }
             CodeStmt::Evaluate(a) => Ok(CodeStmt::Evaluate(a.copy(alloc)?)),
-            CodeStmt::If(a, c, d) => Ok(CodeStmt::If(
-                a.copy(alloc)?,
-                c.copy(alloc)?,
-                d.copy(alloc)?,
-            )),
-            CodeStmt::While(k, a, c) => Ok(CodeStmt::While(*k, a.copy(alloc)?, c.copy(alloc)?)),
+            CodeStmt::If(a, c, d) => {
+                let (a, (c, d)) = both(a.copy(alloc), both(c.copy(alloc), d.copy(alloc)))?;
+                Ok(CodeStmt::If(a, c, d))
+            }
+            CodeStmt::While(k, a, c) => {
+                let (a, c) = both(a.copy(alloc), c.copy(alloc))?;
+                Ok(CodeStmt::While(*k, a, c))
+            }
             CodeStmt::Block(l, c) => Ok(CodeStmt::Block(*l, c.copy(alloc)?)),
             CodeStmt::Break(l) => Ok(CodeStmt::Break(*l)),
-            CodeStmt::Catch(c, v, d) => Ok(CodeStmt::Catch(
-                c.copy(alloc)?,
-                v.copy(alloc)?,
-                d.copy(alloc)?,
-            )),
-            CodeStmt::Finally(c, d) => Ok(CodeStmt::Finally(c.copy(alloc)?, d.copy(alloc)?)),
+            CodeStmt::Catch(c, v, d) => {
+                let (c, (v, d)) = both(c.copy(alloc), both(v.copy(alloc), d.copy(alloc)))?;
+                Ok(CodeStmt::Catch(c, v, d))
+            }
+            CodeStmt::Finally(c, d) => {
+                let (c, d) = both(c.copy(alloc), d.copy(alloc))?;
+                Ok(CodeStmt::Finally(c, d))
+            }
             CodeStmt::Throw(a) => Ok(CodeStmt::Throw(a.copy(alloc)?)),
             CodeStmt::ThrowUnchecked(a) => Ok(CodeStmt::ThrowUnchecked(a.copy(alloc)?)),
             CodeStmt::Return(a) => Ok(CodeStmt::Return(a.copy(alloc)?)),
             CodeStmt::ReturnVoid => Ok(CodeStmt::ReturnVoid),
-            CodeStmt::Frame(r, c) => Ok(CodeStmt::Frame(copy_result(alloc, r)?, c.copy(alloc)?)),
+            CodeStmt::Frame(r, c) => {
+                let (r, c) = both(copy_result(alloc, r), c.copy(alloc))?;
+                Ok(CodeStmt::Frame(r, c))
+            }
             CodeStmt::Raise(class) => Ok(CodeStmt::Raise(*class)),
             CodeStmt::AllocObject(v, class) => Ok(CodeStmt::AllocObject(v.copy(alloc)?, *class)),
-            CodeStmt::AllocArray(v, a) => Ok(CodeStmt::AllocArray(v.copy(alloc)?, a.copy(alloc)?)),
-            CodeStmt::NewArray(v, a) => Ok(CodeStmt::NewArray(v.copy(alloc)?, a.copy(alloc)?)),
+            CodeStmt::AllocArray(v, a) => {
+                let (v, a) = both(v.copy(alloc), a.copy(alloc))?;
+                Ok(CodeStmt::AllocArray(v, a))
+            }
+            CodeStmt::NewArray(v, a) => {
+                let (v, a) = both(v.copy(alloc), a.copy(alloc))?;
+                Ok(CodeStmt::NewArray(v, a))
+            }
             CodeStmt::Stop => Ok(CodeStmt::Stop),
         }
     }
@@ -153,45 +167,46 @@ impl CodeExpr {
             CodeExpr::NullLiteral => Ok(CodeExpr::NullLiteral),
             CodeExpr::Variable(v) => Ok(CodeExpr::Variable(v.copy(alloc)?)),
             CodeExpr::Unary(o, a) => Ok(CodeExpr::Unary(*o, copy_boxed(alloc, a)?)),
-            CodeExpr::Binary(o, a, b) => Ok(CodeExpr::Binary(
-                *o,
-                copy_boxed(alloc, a)?,
-                copy_boxed(alloc, b)?,
-            )),
-            CodeExpr::AndAlso(a, b) => Ok(CodeExpr::AndAlso(
-                copy_boxed(alloc, a)?,
-                copy_boxed(alloc, b)?,
-            )),
-            CodeExpr::OrElse(a, b) => Ok(CodeExpr::OrElse(
-                copy_boxed(alloc, a)?,
-                copy_boxed(alloc, b)?,
-            )),
-            CodeExpr::Conditional(a, b, c) => Ok(CodeExpr::Conditional(
-                copy_boxed(alloc, a)?,
-                copy_boxed(alloc, b)?,
-                copy_boxed(alloc, c)?,
-            )),
+            CodeExpr::Binary(o, a, b) => {
+                let (a, b) = both(copy_boxed(alloc, a), copy_boxed(alloc, b))?;
+                Ok(CodeExpr::Binary(*o, a, b))
+            }
+            CodeExpr::AndAlso(a, b) => {
+                let (a, b) = both(copy_boxed(alloc, a), copy_boxed(alloc, b))?;
+                Ok(CodeExpr::AndAlso(a, b))
+            }
+            CodeExpr::OrElse(a, b) => {
+                let (a, b) = both(copy_boxed(alloc, a), copy_boxed(alloc, b))?;
+                Ok(CodeExpr::OrElse(a, b))
+            }
+            CodeExpr::Conditional(a, b, c) => {
+                let (a, (b, c)) = both(
+                    copy_boxed(alloc, a),
+                    both(copy_boxed(alloc, b), copy_boxed(alloc, c)),
+                )?;
+                Ok(CodeExpr::Conditional(a, b, c))
+            }
             CodeExpr::ReadField(a, f) => Ok(CodeExpr::ReadField(copy_boxed(alloc, a)?, *f)),
-            CodeExpr::ReadElement(a, b) => Ok(CodeExpr::ReadElement(
-                copy_boxed(alloc, a)?,
-                copy_boxed(alloc, b)?,
-            )),
+            CodeExpr::ReadElement(a, b) => {
+                let (a, b) = both(copy_boxed(alloc, a), copy_boxed(alloc, b))?;
+                Ok(CodeExpr::ReadElement(a, b))
+            }
             CodeExpr::LengthOf(a) => Ok(CodeExpr::LengthOf(copy_boxed(alloc, a)?)),
             CodeExpr::Cast(k, a) => Ok(CodeExpr::Cast(*k, copy_boxed(alloc, a)?)),
             CodeExpr::InstanceOf(k, a) => Ok(CodeExpr::InstanceOf(*k, copy_boxed(alloc, a)?)),
-            CodeExpr::VirtualCall(c, m, a, es) => Ok(CodeExpr::VirtualCall(
-                *c,
-                *m,
-                copy_boxed(alloc, a)?,
-                copy_exprs(alloc, es)?,
-            )),
+            CodeExpr::VirtualCall(c, m, a, es) => {
+                let (a, es) = both(copy_boxed(alloc, a), copy_exprs(alloc, es))?;
+                Ok(CodeExpr::VirtualCall(*c, *m, a, es))
+            }
             CodeExpr::StaticCall(m, es) => Ok(CodeExpr::StaticCall(*m, copy_exprs(alloc, es)?)),
-            CodeExpr::ConstructorCall(m, a, es) => Ok(CodeExpr::ConstructorCall(
-                *m,
-                copy_boxed(alloc, a)?,
-                copy_exprs(alloc, es)?,
-            )),
-            CodeExpr::DoThen(c, a) => Ok(CodeExpr::DoThen(c.copy(alloc)?, copy_boxed(alloc, a)?)),
+            CodeExpr::ConstructorCall(m, a, es) => {
+                let (a, es) = both(copy_boxed(alloc, a), copy_exprs(alloc, es))?;
+                Ok(CodeExpr::ConstructorCall(*m, a, es))
+            }
+            CodeExpr::DoThen(c, a) => {
+                let (c, a) = both(c.copy(alloc), copy_boxed(alloc, a))?;
+                Ok(CodeExpr::DoThen(c, a))
+            }
         }
     }
 }

@@ -6,7 +6,7 @@ ghost use Rattle.std.specs.Prelude.{◌≡◌, IfOk, map};
 
 use crate::formula::{Elementary, Formula, Update};
 use crate::term::{ConstId, Loc, Term};
-use jd_base::{NoMemory, copy_bytes};
+use jd_base::{NoMemory, both, copy_bytes};
 use std::alloc::Global;
 
 /// A copy of the term.
@@ -86,37 +86,48 @@ impl Term {
             Term::ProgramVariable(x) => Ok(Term::ProgramVariable(x.copy(alloc)?)),
             Term::Constant(c) => Ok(Term::Constant(c.copy(alloc)?)),
             Term::Bound(i, s) => Ok(Term::Bound(*i, *s)),
-            Term::Arithmetic(o, a, b) => Ok(Term::Arithmetic(
-                *o,
-                copy_boxed(alloc, a)?,
-                copy_boxed(alloc, b)?,
-            )),
+            Term::Arithmetic(o, a, b) => {
+                let (a, b) = both(copy_boxed(alloc, a), copy_boxed(alloc, b))?;
+                Ok(Term::Arithmetic(*o, a, b))
+            }
             Term::Negation(a) => Ok(Term::Negation(copy_boxed(alloc, a)?)),
             Term::Wrap(a) => Ok(Term::Wrap(copy_boxed(alloc, a)?)),
             Term::Length(a) => Ok(Term::Length(copy_boxed(alloc, a)?)),
-            Term::Select(s, a, b, c) => Ok(Term::Select(
-                *s,
-                copy_boxed(alloc, a)?,
-                copy_boxed(alloc, b)?,
-                copy_boxed(alloc, c)?,
-            )),
-            Term::Sum(a, b, c) => Ok(Term::Sum(
-                copy_boxed(alloc, a)?,
-                copy_boxed(alloc, b)?,
-                copy_boxed(alloc, c)?,
-            )),
-            Term::Store(a, b, c, d) => Ok(Term::Store(
-                copy_boxed(alloc, a)?,
-                copy_boxed(alloc, b)?,
-                copy_boxed(alloc, c)?,
-                copy_boxed(alloc, d)?,
-            )),
-            Term::Create(a, b) => Ok(Term::Create(copy_boxed(alloc, a)?, copy_boxed(alloc, b)?)),
-            Term::Anon(a, l, b) => Ok(Term::Anon(
-                copy_boxed(alloc, a)?,
-                copy_boxed_loc(alloc, l)?,
-                copy_boxed(alloc, b)?,
-            )),
+            Term::Select(s, a, b, c) => {
+                let (a, (b, c)) = both(
+                    copy_boxed(alloc, a),
+                    both(copy_boxed(alloc, b), copy_boxed(alloc, c)),
+                )?;
+                Ok(Term::Select(*s, a, b, c))
+            }
+            Term::Sum(a, b, c) => {
+                let (a, (b, c)) = both(
+                    copy_boxed(alloc, a),
+                    both(copy_boxed(alloc, b), copy_boxed(alloc, c)),
+                )?;
+                Ok(Term::Sum(a, b, c))
+            }
+            Term::Store(a, b, c, d) => {
+                let (a, (b, (c, d))) = both(
+                    copy_boxed(alloc, a),
+                    both(
+                        copy_boxed(alloc, b),
+                        both(copy_boxed(alloc, c), copy_boxed(alloc, d)),
+                    ),
+                )?;
+                Ok(Term::Store(a, b, c, d))
+            }
+            Term::Create(a, b) => {
+                let (a, b) = both(copy_boxed(alloc, a), copy_boxed(alloc, b))?;
+                Ok(Term::Create(a, b))
+            }
+            Term::Anon(a, l, b) => {
+                let (a, (l, b)) = both(
+                    copy_boxed(alloc, a),
+                    both(copy_boxed_loc(alloc, l), copy_boxed(alloc, b)),
+                )?;
+                Ok(Term::Anon(a, l, b))
+            }
             Term::NamedField(f) => Ok(Term::NamedField(*f)),
             Term::CreatedField => Ok(Term::CreatedField),
             Term::ElementField(a) => Ok(Term::ElementField(copy_boxed(alloc, a)?)),
@@ -133,18 +144,23 @@ impl Loc {
         match self {
             Loc::NoLocations => Ok(Loc::NoLocations),
             Loc::AllLocations => Ok(Loc::AllLocations),
-            Loc::Single(a, b) => Ok(Loc::Single(copy_boxed(alloc, a)?, copy_boxed(alloc, b)?)),
+            Loc::Single(a, b) => {
+                let (a, b) = both(copy_boxed(alloc, a), copy_boxed(alloc, b))?;
+                Ok(Loc::Single(a, b))
+            }
             Loc::ObjectFields(a) => Ok(Loc::ObjectFields(copy_boxed(alloc, a)?)),
             Loc::ArrayElements(a) => Ok(Loc::ArrayElements(copy_boxed(alloc, a)?)),
-            Loc::ElementRange(a, b, c) => Ok(Loc::ElementRange(
-                copy_boxed(alloc, a)?,
-                copy_boxed(alloc, b)?,
-                copy_boxed(alloc, c)?,
-            )),
-            Loc::Union(l, m) => Ok(Loc::Union(
-                copy_boxed_loc(alloc, l)?,
-                copy_boxed_loc(alloc, m)?,
-            )),
+            Loc::ElementRange(a, b, c) => {
+                let (a, (b, c)) = both(
+                    copy_boxed(alloc, a),
+                    both(copy_boxed(alloc, b), copy_boxed(alloc, c)),
+                )?;
+                Ok(Loc::ElementRange(a, b, c))
+            }
+            Loc::Union(l, m) => {
+                let (l, m) = both(copy_boxed_loc(alloc, l), copy_boxed_loc(alloc, m))?;
+                Ok(Loc::Union(l, m))
+            }
         }
     }
 }
@@ -198,44 +214,54 @@ impl Formula {
             Formula::TrueFormula => Ok(Formula::TrueFormula),
             Formula::FalseFormula => Ok(Formula::FalseFormula),
             Formula::Not(a) => Ok(Formula::Not(copy_boxed_formula(alloc, a)?)),
-            Formula::And(a, b) => Ok(Formula::And(
-                copy_boxed_formula(alloc, a)?,
-                copy_boxed_formula(alloc, b)?,
-            )),
-            Formula::Or(a, b) => Ok(Formula::Or(
-                copy_boxed_formula(alloc, a)?,
-                copy_boxed_formula(alloc, b)?,
-            )),
-            Formula::Implies(a, b) => Ok(Formula::Implies(
-                copy_boxed_formula(alloc, a)?,
-                copy_boxed_formula(alloc, b)?,
-            )),
-            Formula::Iff(a, b) => Ok(Formula::Iff(
-                copy_boxed_formula(alloc, a)?,
-                copy_boxed_formula(alloc, b)?,
-            )),
-            Formula::Equal(a, b) => Ok(Formula::Equal(a.copy(alloc)?, b.copy(alloc)?)),
-            Formula::Less(a, b) => Ok(Formula::Less(a.copy(alloc)?, b.copy(alloc)?)),
-            Formula::LessOrEqual(a, b) => Ok(Formula::LessOrEqual(a.copy(alloc)?, b.copy(alloc)?)),
+            Formula::And(a, b) => {
+                let (a, b) = both(copy_boxed_formula(alloc, a), copy_boxed_formula(alloc, b))?;
+                Ok(Formula::And(a, b))
+            }
+            Formula::Or(a, b) => {
+                let (a, b) = both(copy_boxed_formula(alloc, a), copy_boxed_formula(alloc, b))?;
+                Ok(Formula::Or(a, b))
+            }
+            Formula::Implies(a, b) => {
+                let (a, b) = both(copy_boxed_formula(alloc, a), copy_boxed_formula(alloc, b))?;
+                Ok(Formula::Implies(a, b))
+            }
+            Formula::Iff(a, b) => {
+                let (a, b) = both(copy_boxed_formula(alloc, a), copy_boxed_formula(alloc, b))?;
+                Ok(Formula::Iff(a, b))
+            }
+            Formula::Equal(a, b) => {
+                let (a, b) = both(a.copy(alloc), b.copy(alloc))?;
+                Ok(Formula::Equal(a, b))
+            }
+            Formula::Less(a, b) => {
+                let (a, b) = both(a.copy(alloc), b.copy(alloc))?;
+                Ok(Formula::Less(a, b))
+            }
+            Formula::LessOrEqual(a, b) => {
+                let (a, b) = both(a.copy(alloc), b.copy(alloc))?;
+                Ok(Formula::LessOrEqual(a, b))
+            }
             Formula::Forall(s, a) => Ok(Formula::Forall(*s, copy_boxed_formula(alloc, a)?)),
             Formula::Exists(s, a) => Ok(Formula::Exists(*s, copy_boxed_formula(alloc, a)?)),
-            Formula::Updated(u, a) => Ok(Formula::Updated(
-                u.copy(alloc)?,
-                copy_boxed_formula(alloc, a)?,
-            )),
-            Formula::Modal(m, c, a) => Ok(Formula::Modal(
-                *m,
-                c.copy(alloc)?,
-                copy_boxed_formula(alloc, a)?,
-            )),
-            Formula::InLocations(a, b, l) => Ok(Formula::InLocations(
-                a.copy(alloc)?,
-                b.copy(alloc)?,
-                l.copy(alloc)?,
-            )),
+            Formula::Updated(u, a) => {
+                let (u, a) = both(u.copy(alloc), copy_boxed_formula(alloc, a))?;
+                Ok(Formula::Updated(u, a))
+            }
+            Formula::Modal(m, c, a) => {
+                let (c, a) = both(c.copy(alloc), copy_boxed_formula(alloc, a))?;
+                Ok(Formula::Modal(*m, c, a))
+            }
+            Formula::InLocations(a, b, l) => {
+                let (a, (b, l)) = both(a.copy(alloc), both(b.copy(alloc), l.copy(alloc)))?;
+                Ok(Formula::InLocations(a, b, l))
+            }
             Formula::InInt(a) => Ok(Formula::InInt(a.copy(alloc)?)),
             Formula::WellFormed(a) => Ok(Formula::WellFormed(a.copy(alloc)?)),
-            Formula::Invariant(a, b) => Ok(Formula::Invariant(a.copy(alloc)?, b.copy(alloc)?)),
+            Formula::Invariant(a, b) => {
+                let (a, b) = both(a.copy(alloc), b.copy(alloc))?;
+                Ok(Formula::Invariant(a, b))
+            }
             Formula::IsInstance(k, a) => Ok(Formula::IsInstance(*k, a.copy(alloc)?)),
             Formula::IsExactInstance(k, a) => Ok(Formula::IsExactInstance(*k, a.copy(alloc)?)),
         }

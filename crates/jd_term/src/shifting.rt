@@ -8,7 +8,7 @@ ghost use Rattle.std.specs.Prelude.{◌≡◌, ◌+◌, ◌<◌, ◌^◌, All, I
 use crate::copies::{boxed_formula, boxed_loc, boxed_term};
 use crate::formula::{Elementary, Formula, Update};
 use crate::term::{Loc, Term};
-use jd_base::NoMemory;
+use jd_base::{NoMemory, both};
 use std::alloc::Global;
 
 #[cycle(shift_term)]
@@ -42,40 +42,66 @@ pub fn shift_term(alloc: Global, t: &Term, from: u32, by: u32) -> Result<Term, N
         Term::ProgramVariable(x) => Ok(Term::ProgramVariable(x.copy(alloc)?)),
         Term::Constant(c) => Ok(Term::Constant(c.copy(alloc)?)),
         Term::Bound(i, s) => Ok(Term::Bound(if *i < from { *i } else { *i + by }, *s)),
-        Term::Arithmetic(o, a, b) => Ok(Term::Arithmetic(
-            *o,
-            shift_boxed(alloc, a, from, by)?,
-            shift_boxed(alloc, b, from, by)?,
-        )),
+        Term::Arithmetic(o, a, b) => {
+            let (a, b) = both(
+                shift_boxed(alloc, a, from, by),
+                shift_boxed(alloc, b, from, by),
+            )?;
+            Ok(Term::Arithmetic(*o, a, b))
+        }
         Term::Negation(a) => Ok(Term::Negation(shift_boxed(alloc, a, from, by)?)),
         Term::Wrap(a) => Ok(Term::Wrap(shift_boxed(alloc, a, from, by)?)),
         Term::Length(a) => Ok(Term::Length(shift_boxed(alloc, a, from, by)?)),
-        Term::Select(s, a, b, c) => Ok(Term::Select(
-            *s,
-            shift_boxed(alloc, a, from, by)?,
-            shift_boxed(alloc, b, from, by)?,
-            shift_boxed(alloc, c, from, by)?,
-        )),
-        Term::Sum(a, b, c) => Ok(Term::Sum(
-            shift_boxed(alloc, a, from, by)?,
-            shift_boxed(alloc, b, from, by)?,
-            shift_boxed(alloc, c, from + 1, by)?,
-        )),
-        Term::Store(a, b, c, d) => Ok(Term::Store(
-            shift_boxed(alloc, a, from, by)?,
-            shift_boxed(alloc, b, from, by)?,
-            shift_boxed(alloc, c, from, by)?,
-            shift_boxed(alloc, d, from, by)?,
-        )),
-        Term::Create(a, b) => Ok(Term::Create(
-            shift_boxed(alloc, a, from, by)?,
-            shift_boxed(alloc, b, from, by)?,
-        )),
-        Term::Anon(a, l, b) => Ok(Term::Anon(
-            shift_boxed(alloc, a, from, by)?,
-            shift_boxed_loc(alloc, l, from, by)?,
-            shift_boxed(alloc, b, from, by)?,
-        )),
+        Term::Select(s, a, b, c) => {
+            let (a, (b, c)) = both(
+                shift_boxed(alloc, a, from, by),
+                both(
+                    shift_boxed(alloc, b, from, by),
+                    shift_boxed(alloc, c, from, by),
+                ),
+            )?;
+            Ok(Term::Select(*s, a, b, c))
+        }
+        Term::Sum(a, b, c) => {
+            let (a, (b, c)) = both(
+                shift_boxed(alloc, a, from, by),
+                both(
+                    shift_boxed(alloc, b, from, by),
+                    shift_boxed(alloc, c, from + 1, by),
+                ),
+            )?;
+            Ok(Term::Sum(a, b, c))
+        }
+        Term::Store(a, b, c, d) => {
+            let (a, (b, (c, d))) = both(
+                shift_boxed(alloc, a, from, by),
+                both(
+                    shift_boxed(alloc, b, from, by),
+                    both(
+                        shift_boxed(alloc, c, from, by),
+                        shift_boxed(alloc, d, from, by),
+                    ),
+                ),
+            )?;
+            Ok(Term::Store(a, b, c, d))
+        }
+        Term::Create(a, b) => {
+            let (a, b) = both(
+                shift_boxed(alloc, a, from, by),
+                shift_boxed(alloc, b, from, by),
+            )?;
+            Ok(Term::Create(a, b))
+        }
+        Term::Anon(a, l, b) => {
+            let (a, (l, b)) = both(
+                shift_boxed(alloc, a, from, by),
+                both(
+                    shift_boxed_loc(alloc, l, from, by),
+                    shift_boxed(alloc, b, from, by),
+                ),
+            )?;
+            Ok(Term::Anon(a, l, b))
+        }
         Term::NamedField(f) => Ok(Term::NamedField(*f)),
         Term::CreatedField => Ok(Term::CreatedField),
         Term::ElementField(a) => Ok(Term::ElementField(shift_boxed(alloc, a, from, by)?)),
@@ -91,21 +117,32 @@ pub fn shift_loc(alloc: Global, l: &Loc, from: u32, by: u32) -> Result<Loc, NoMe
     match l {
         Loc::NoLocations => Ok(Loc::NoLocations),
         Loc::AllLocations => Ok(Loc::AllLocations),
-        Loc::Single(a, b) => Ok(Loc::Single(
-            shift_boxed(alloc, a, from, by)?,
-            shift_boxed(alloc, b, from, by)?,
-        )),
+        Loc::Single(a, b) => {
+            let (a, b) = both(
+                shift_boxed(alloc, a, from, by),
+                shift_boxed(alloc, b, from, by),
+            )?;
+            Ok(Loc::Single(a, b))
+        }
         Loc::ObjectFields(a) => Ok(Loc::ObjectFields(shift_boxed(alloc, a, from, by)?)),
         Loc::ArrayElements(a) => Ok(Loc::ArrayElements(shift_boxed(alloc, a, from, by)?)),
-        Loc::ElementRange(a, b, c) => Ok(Loc::ElementRange(
-            shift_boxed(alloc, a, from, by)?,
-            shift_boxed(alloc, b, from, by)?,
-            shift_boxed(alloc, c, from, by)?,
-        )),
-        Loc::Union(l, m) => Ok(Loc::Union(
-            shift_boxed_loc(alloc, l, from, by)?,
-            shift_boxed_loc(alloc, m, from, by)?,
-        )),
+        Loc::ElementRange(a, b, c) => {
+            let (a, (b, c)) = both(
+                shift_boxed(alloc, a, from, by),
+                both(
+                    shift_boxed(alloc, b, from, by),
+                    shift_boxed(alloc, c, from, by),
+                ),
+            )?;
+            Ok(Loc::ElementRange(a, b, c))
+        }
+        Loc::Union(l, m) => {
+            let (l, m) = both(
+                shift_boxed_loc(alloc, l, from, by),
+                shift_boxed_loc(alloc, m, from, by),
+            )?;
+            Ok(Loc::Union(l, m))
+        }
     }
 }
 
@@ -151,34 +188,55 @@ pub fn shift(alloc: Global, f: &Formula, from: u32, by: u32) -> Result<Formula, 
         Formula::TrueFormula => Ok(Formula::TrueFormula),
         Formula::FalseFormula => Ok(Formula::FalseFormula),
         Formula::Not(a) => Ok(Formula::Not(shift_boxed_formula(alloc, a, from, by)?)),
-        Formula::And(a, b) => Ok(Formula::And(
-            shift_boxed_formula(alloc, a, from, by)?,
-            shift_boxed_formula(alloc, b, from, by)?,
-        )),
-        Formula::Or(a, b) => Ok(Formula::Or(
-            shift_boxed_formula(alloc, a, from, by)?,
-            shift_boxed_formula(alloc, b, from, by)?,
-        )),
-        Formula::Implies(a, b) => Ok(Formula::Implies(
-            shift_boxed_formula(alloc, a, from, by)?,
-            shift_boxed_formula(alloc, b, from, by)?,
-        )),
-        Formula::Iff(a, b) => Ok(Formula::Iff(
-            shift_boxed_formula(alloc, a, from, by)?,
-            shift_boxed_formula(alloc, b, from, by)?,
-        )),
-        Formula::Equal(a, b) => Ok(Formula::Equal(
-            shift_term(alloc, a, from, by)?,
-            shift_term(alloc, b, from, by)?,
-        )),
-        Formula::Less(a, b) => Ok(Formula::Less(
-            shift_term(alloc, a, from, by)?,
-            shift_term(alloc, b, from, by)?,
-        )),
-        Formula::LessOrEqual(a, b) => Ok(Formula::LessOrEqual(
-            shift_term(alloc, a, from, by)?,
-            shift_term(alloc, b, from, by)?,
-        )),
+        Formula::And(a, b) => {
+            let (a, b) = both(
+                shift_boxed_formula(alloc, a, from, by),
+                shift_boxed_formula(alloc, b, from, by),
+            )?;
+            Ok(Formula::And(a, b))
+        }
+        Formula::Or(a, b) => {
+            let (a, b) = both(
+                shift_boxed_formula(alloc, a, from, by),
+                shift_boxed_formula(alloc, b, from, by),
+            )?;
+            Ok(Formula::Or(a, b))
+        }
+        Formula::Implies(a, b) => {
+            let (a, b) = both(
+                shift_boxed_formula(alloc, a, from, by),
+                shift_boxed_formula(alloc, b, from, by),
+            )?;
+            Ok(Formula::Implies(a, b))
+        }
+        Formula::Iff(a, b) => {
+            let (a, b) = both(
+                shift_boxed_formula(alloc, a, from, by),
+                shift_boxed_formula(alloc, b, from, by),
+            )?;
+            Ok(Formula::Iff(a, b))
+        }
+        Formula::Equal(a, b) => {
+            let (a, b) = both(
+                shift_term(alloc, a, from, by),
+                shift_term(alloc, b, from, by),
+            )?;
+            Ok(Formula::Equal(a, b))
+        }
+        Formula::Less(a, b) => {
+            let (a, b) = both(
+                shift_term(alloc, a, from, by),
+                shift_term(alloc, b, from, by),
+            )?;
+            Ok(Formula::Less(a, b))
+        }
+        Formula::LessOrEqual(a, b) => {
+            let (a, b) = both(
+                shift_term(alloc, a, from, by),
+                shift_term(alloc, b, from, by),
+            )?;
+            Ok(Formula::LessOrEqual(a, b))
+        }
         Formula::Forall(s, a) => Ok(Formula::Forall(
             *s,
             shift_boxed_formula(alloc, a, from + 1, by)?,
@@ -188,25 +246,35 @@ pub fn shift(alloc: Global, f: &Formula, from: u32, by: u32) -> Result<Formula, 
             shift_boxed_formula(alloc, a, from + 1, by)?,
         )),
         Formula::Updated(u, a) => {
-            let pairs = shift_pairs(alloc, &u.pairs, from, by)?;
-            Ok(Formula::Updated(Update { pairs }, shift_boxed_formula(alloc, a, from, by)?))
+            let (pairs, a) = both(
+                shift_pairs(alloc, &u.pairs, from, by),
+                shift_boxed_formula(alloc, a, from, by),
+            )?;
+            Ok(Formula::Updated(Update { pairs }, a))
         }
-        Formula::Modal(m, c, a) => Ok(Formula::Modal(
-            *m,
-            c.copy(alloc)?,
-            shift_boxed_formula(alloc, a, from, by)?,
-        )),
-        Formula::InLocations(a, b, l) => Ok(Formula::InLocations(
-            shift_term(alloc, a, from, by)?,
-            shift_term(alloc, b, from, by)?,
-            shift_loc(alloc, l, from, by)?,
-        )),
+        Formula::Modal(m, c, a) => {
+            let (c, a) = both(c.copy(alloc), shift_boxed_formula(alloc, a, from, by))?;
+            Ok(Formula::Modal(*m, c, a))
+        }
+        Formula::InLocations(a, b, l) => {
+            let (a, (b, l)) = both(
+                shift_term(alloc, a, from, by),
+                both(
+                    shift_term(alloc, b, from, by),
+                    shift_loc(alloc, l, from, by),
+                ),
+            )?;
+            Ok(Formula::InLocations(a, b, l))
+        }
         Formula::InInt(a) => Ok(Formula::InInt(shift_term(alloc, a, from, by)?)),
         Formula::WellFormed(a) => Ok(Formula::WellFormed(shift_term(alloc, a, from, by)?)),
-        Formula::Invariant(a, b) => Ok(Formula::Invariant(
-            shift_term(alloc, a, from, by)?,
-            shift_term(alloc, b, from, by)?,
-        )),
+        Formula::Invariant(a, b) => {
+            let (a, b) = both(
+                shift_term(alloc, a, from, by),
+                shift_term(alloc, b, from, by),
+            )?;
+            Ok(Formula::Invariant(a, b))
+        }
         Formula::IsInstance(k, a) => Ok(Formula::IsInstance(*k, shift_term(alloc, a, from, by)?)),
         Formula::IsExactInstance(k, a) => Ok(Formula::IsExactInstance(
             *k,

@@ -161,7 +161,7 @@ fn with_true(alloc: Global, sequent: &Sequent, place: &Place) -> Result<(Sequent
         return Err(Fail::from("no formula"));
     };
     let copied = replace_at(alloc, sequent, place, &Formula::TrueFormula)?;
-    let moved = put_at_place(alloc, sequent, place, Formula::TrueFormula)?;
+    let moved = put_at_place(alloc, sequent.copy(alloc)?, place, Formula::TrueFormula)?;
     Ok((copied, moved))
 }
 

@@ -6,6 +6,8 @@ mod bracketed;
 #[cfg(test)]
 mod names;
 #[cfg(test)]
+mod obligations;
+#[cfg(test)]
 mod printed;
 #[cfg(test)]
 mod scripts;

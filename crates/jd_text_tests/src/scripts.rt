@@ -62,7 +62,7 @@ fn push_step(out: &mut String, step: &Step) -> Result<(), Fail> {
 }
 
 // the nodes with their numbers of children
-fn push_nodes(out: &mut String, nodes: &[ScriptNode]) -> Result<(), Fail> {
+pub(crate) fn push_nodes(out: &mut String, nodes: &[ScriptNode]) -> Result<(), Fail> {
     for node in nodes {
         match &node.step {
             None => out.push('-')?,
@@ -85,7 +85,7 @@ fn push_proofs(out: &mut String, proofs: &[Proof]) -> Result<(), Fail> {
     Ok(())
 }
 
-fn push_refusal(out: &mut String, refusal: &ScriptRefusal) -> Result<(), Fail> {
+pub(crate) fn push_refusal(out: &mut String, refusal: &ScriptRefusal) -> Result<(), Fail> {
     match refusal {
         ScriptRefusal::Version => out.push_str("Version")?,
         ScriptRefusal::Syntax { file, at } => write!(out, "Syntax in {file} at {at}")?,

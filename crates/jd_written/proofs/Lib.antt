@@ -1,3 +1,4 @@
 pub mod Integers
 pub mod Reading
+pub mod ReadWords
 pub mod Writing

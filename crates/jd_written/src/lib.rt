@@ -5,4 +5,4 @@ mod laws;
 mod written;
 
 pub use laws::{integers_are_words, read_back, written_in_parts};
-pub use written::Written;
+pub use written::{Written, add_number};

@@ -1,11 +1,20 @@
 ghost use Rattle.std.specs.Prelude.{◌≡◌, pos, [], ◌++◌, cond, codes, OnOk};
 ghost use Rattle.jd_bracketed.specs.Tokens as tokens;
-ghost use Rattle.jd_written.specs.Written.{empty_text, integer_text, write};
+ghost use Rattle.jd_written.specs.Written.{empty_text, integer_text, number_text, write};
 
 use itoa::Buffer;
 use jd_base::NoMemory;
 use std::alloc::Global;
 use std::marker::Model;
+
+/// Adds a number's decimal digits to a text.
+pub fn add_number(text: &mut Vec<u8>, n: u64) -> Result<(), NoMemory>
+    ensures { OnOk result (text.new.items ≡ text.old.items ++ number_text n) }
+{
+    let mut digits = Buffer::new();
+    text.extend_from_slice(digits.format(n).as_bytes())?;
+    Ok(())
+}
 
 /// A text of ASCII that is written token by token: one space between two tokens, none behind an opening bracket and none before a
 /// closing one. Contracts see the bytes, and whether the next token follows without a space.

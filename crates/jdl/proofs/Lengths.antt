@@ -1,5 +1,5 @@
 -- How long reports are.
-use Rattle.std.proofs.Common.{◌≤◌, ◌+◌, ◌*◌, ◌/◌, ◌%◌, ℕ, zero, suc, Bool, true, false, cond, List, [], ◌∷◌, ◌++◌, codes, length, ap, subst, arith, length-append}
+use Rattle.std.proofs.Common.{◌≤◌, ◌+◌, ◌*◌, ◌/◌, ◌%◌, ℕ, zero, suc, Bool, true, false, cond, List, [], ◌∷◌, ◌++◌, Option, codes, length, ap, subst, arith, length-append}
 use Rattle.std.specs.Prelude.{◌==◌}
 use Rattle.std.specs.List.{All}
 use Rattle.std.specs.Fmt.{decimal, digits, digits_onto, digit_glyph}
@@ -7,7 +7,7 @@ use Rattle.std.proofs.lemmas.List.Elements.{All-cons, All-get_or, All-map, All-t
 use Rattle.jd_lexemes.specs.Lexemes.{Lexeme, Spells}
 use Rattle.jd_lexemes.specs.declared.alphabet.Class.{Class}
 use Rattle.jd_model.specs.Sequents.{PlainSequent}
-use Rattle.jd_sequent.specs.Trees.{PlainStep, steps_in}
+use Rattle.jd_sequent.specs.Trees.{PlainStep, ProofTree, steps_in}
 use Rattle.jd_sequent.specs.declared.bad.Bad.{Bad}
 use Rattle.jd_sequent.specs.declared.bad.Bad.TheVariants.{UnknownRule, NoFormula, NoPlace, WrongPlaceKind, NoMatch, MissingInst, BadInst, NoAssume, NotFresh, SideCondition, NoContract, NoDecreases, TooLarge, NoMemory}
 use Rattle.jd_replay.specs.declared.verdict.Cause.{Cause}
@@ -15,7 +15,6 @@ use Rattle.jd_replay.specs.declared.verdict.Cause.TheVariants.{Rule, BranchCount
 use Rattle.jd_first_java.specs.Alphabet.{java_class}
 use Rattle.jd_first_java.specs.Programs.{Condition, Program, operand_text, comparison_text, condition_texts, further_conditions, clause_texts, parameter_list, body_texts, written}
 use Rattle.jd_first_java.specs.Reads as java
-use Rattle.jd_first_script.specs.Scripts.{PlainScript}
 use Rattle.jd_first_oblig.specs.Obligations.{obligation_name}
 use Rattle.jdl.specs.Reports.{IsReport, missing, closed, opened, broken, bad_kind, cause_text}
 use Rattle.jdl.specs.declared.status.Status.{Status}
@@ -58,14 +57,14 @@ length-cause (BranchCount script rule) =
     omega (arith, length-decimal script, length-decimal rule, length-append (decimal script) (32 ∷ decimal rule))
 
 -- a report has at most 300 bytes beside the name
-pub length-report : (leads : PlainSequent → PlainStep → List PlainSequent → Type 0) (causes : PlainSequent → PlainStep → ℕ → Type 0) (name : List ℕ) (goal : PlainSequent) (s : PlainScript) (status : Status) (text : List ℕ) → IsReport leads causes name goal s status text → length text ≤ length name + 300
-length-report leads causes name goal s status text (missing none) =
+pub length-report : (leads : PlainSequent → PlainStep → List PlainSequent → Type 0) (causes : PlainSequent → PlainStep → ℕ → Type 0) (name : List ℕ) (goal : PlainSequent) (p : Option ProofTree) (status : Status) (text : List ℕ) → IsReport leads causes name goal p status text → length text ≤ length name + 300
+length-report leads causes name goal p status text (missing none) =
     simp length-append (omega arith)
-length-report leads causes name goal s status text (closed tree one derived) =
+length-report leads causes name goal p status text (closed tree one derived) =
     let few = length-decimal (steps_in tree) in simp length-append (omega arith)
-length-report leads causes name goal s status text (opened tree goals one derived some) =
+length-report leads causes name goal p status text (opened tree goals one derived some) =
     let few = length-decimal (length goals) in simp length-append (omega arith)
-length-report leads causes name goal s status text (broken tree node cause one first) =
+length-report leads causes name goal p status text (broken tree node cause one first) =
     let few = length-decimal node in let more = length-cause cause in simp length-append (omega arith)
 
 -- no lexeme is longer than the bytes

@@ -7,9 +7,12 @@ pub mod Lengths
 pub mod Literals
 pub mod Names
 pub mod Outcomes
+pub mod ProofAnswers
+pub mod Reports
 pub mod Reading
 pub mod Refusals
 pub mod Replays
+pub mod ScriptKinds
 pub mod SortedObligations
 pub mod Texts
 pub mod Understanding

@@ -4,34 +4,34 @@ use Rattle.std.specs.List.{All}
 use Rattle.std.proofs.lemmas.List.Elements.{All-cons, All-head, All-nil}
 use Rattle.std.proofs.lemmas.Option.{none-some, same_Some}
 use Rattle.jd_model.specs.Sequents.{PlainSequent}
-use Rattle.jd_sequent.specs.Trees.{PlainStep, steps_in}
+use Rattle.jd_sequent.specs.Trees.{PlainStep, ProofTree, steps_in}
 use Rattle.jd_sequent.specs.Derives.{Derives}
 use Rattle.jd_replay.specs.FirstBad.{FirstBad}
 use Rattle.jd_replay.proofs.OneFirstBad.{bad_derives_nothing, one_first_bad}
 use Rattle.jd_first_java.specs.Programs.{Program}
 use Rattle.jd_first_java.specs.Reads as java
 use Rattle.jd_first_java.proofs.Meaning.{one_meaning}
-use Rattle.jd_first_script.specs.Scripts as script
-use Rattle.jd_first_script.specs.Scripts.{PlainScript}
-use Rattle.jd_first_script.proofs.Files.{one_script}
+use Rattle.jd_scripts.specs.Answers as script
+use Rattle.jd_proofs.specs.Outcomes.{Outcome, Trees, NoFile}
 use Rattle.jd_first_oblig.specs.Obligations.{obligation_name, obligation_sequent}
 use Rattle.jdl.specs.Words.{replay_words}
 use Rattle.jd_files.specs.Files.{file_limit, files_limit}
 use Rattle.jd_files.specs.Laws.{OneFilesRefusal}
 use Rattle.jdl.specs.FileAnswers.{IsRefusal}
 use Rattle.jdl.specs.Sources.{AreProgram}
-use Rattle.jdl.specs.Reports.{IsReport, missing, closed, opened, broken, closed_text, open_text, bad_text, usage_text, unbuilt_text, files_limit_text, proof_limit_text, file_limit_text}
-use Rattle.jdl.specs.Answers.{proof_limit, report_limit, HaveBytes, HaveLongFile, IsProofRead, AreRead, IsProofAnswer, no_script, long_report, replayed, IsAnswer, usage, many_files, long_proof, long_file, refused, judged, SameAnswer, equal}
+use Rattle.jdl.specs.Reports.{IsReport, missing, closed, opened, broken, closed_text, open_text, bad_text, usage_text, script_kind, unknown_kind, script_refusal_text, files_limit_text, proof_limit_text, file_limit_text}
+use Rattle.jdl.specs.Answers.{proof_limit, report_limit, HaveBytes, HaveLongFile, IsProofRead, AreRead, IsNoFileAnswer, refused_file, many_steps, IsOutcomeAnswer, no_file, unknown, long_report, replayed, IsProofAnswer, IsAnswer, usage, many_files, long_proof, long_file, refused, judged, SameAnswer, equal}
 use Rattle.jdl.specs.declared.status.Status.{Status}
-use Rattle.jdl.specs.declared.status.Status.TheVariants.{Usage, RefusedScript, Limit}
+use Rattle.jdl.specs.declared.status.Status.TheVariants.{Usage, Limit}
 use Rattle.jdl.proofs.Derivations.{OneWay, HasNoCause, one_derivation}
 use Rattle.jdl.proofs.Files.{none_long, one_list}
 use Rattle.jdl.proofs.FileAnswers.{no_program, one_refusal}
 use Rattle.jdl.proofs.Lengths.{length-report, length-name}
+use Rattle.jdl.proofs.ProofAnswers.{one_outcome}
 
 -- ---- one report
 
-pub one_report : (leads : PlainSequent → PlainStep → List PlainSequent → Type 0) (causes : PlainSequent → PlainStep → ℕ → Type 0) → OneWay leads → HasNoCause leads causes → (name : List ℕ) (goal : PlainSequent) (s : PlainScript) (status other : Status) (text another : List ℕ) → IsReport leads causes name goal s status text → IsReport leads causes name goal s other another → (status ≡ other) × (text ≡ another)
+pub one_report : (leads : PlainSequent → PlainStep → List PlainSequent → Type 0) (causes : PlainSequent → PlainStep → ℕ → Type 0) → OneWay leads → HasNoCause leads causes → (name : List ℕ) (goal : PlainSequent) (s : Option ProofTree) (status other : Status) (text another : List ℕ) → IsReport leads causes name goal s status text → IsReport leads causes name goal s other another → (status ≡ other) × (text ≡ another)
 one_report leads causes way free name goal s status other text another (missing none) (missing none') = (refl, refl)
 one_report leads causes way free name goal s status other text another (missing none) (closed tree one derived) = absurd cc
 one_report leads causes way free name goal s status other text another (missing none) (opened tree goals one derived some) = absurd cc
@@ -77,22 +77,44 @@ pub same_by : (status other : Status) (text another : List ℕ) → (status ≡ 
 same_by status other text another both = rw (both.0, both.1) (equal other another)
 
 module _ (leads : PlainSequent → PlainStep → List PlainSequent → Type 0) (causes : PlainSequent → PlainStep → ℕ → Type 0) (way : OneWay leads) (free : HasNoCause leads causes) (file : List ℕ) (q : Program) (of_file : java.Reads file q) (small : length file ≤ file_limit) (proof bytes : List ℕ) where
-  no_long_report : (s : PlainScript) (status : Status) (text : List ℕ) → IsReport leads causes (obligation_name q) (obligation_sequent q) s status text → report_limit < length text → ⊥
+  no_long_report : (s : Option ProofTree) (status : Status) (text : List ℕ) → IsReport leads causes (obligation_name q) (obligation_sequent q) s status text → report_limit < length text → ⊥
   no_long_report s status text is past =
       let few = length-report leads causes (obligation_name q) (obligation_sequent q) s status text is in
       let short = length-name file q of_file in
       omega (arith, few, short, small)
 
+  one_no_file : (a : script.Answer) (status other : Status) (text another : List ℕ) → IsNoFileAnswer proof a status text → IsNoFileAnswer proof a other another → (status ≡ other) × (text ≡ another)
+  one_no_file a status other text another (refused_file kind is) (refused_file kind' is') =
+      (refl, ap (script_refusal_text proof) (same_Some kind kind' (sym is ∙ is')))
+  one_no_file a status other text another (refused_file kind is) (many_steps many) = absurd (none-some kind (sym (ap script_kind many) ∙ is))
+  one_no_file a status other text another (many_steps many) (refused_file kind is) = absurd (none-some kind (sym (ap script_kind many) ∙ is))
+  one_no_file a status other text another (many_steps many) (many_steps many') = (refl, refl)
+
+  one_outcome_answer : (o : Outcome) (status other : Status) (text another : List ℕ) → IsOutcomeAnswer leads causes q proof o status text → IsOutcomeAnswer leads causes q proof o other another → (status ≡ other) × (text ≡ another)
+  one_outcome_answer o status other text another (no_file a _ _ of it) (no_file a' _ _ of' it') =
+      let same : a' ≡ a = cc in
+      one_no_file a status other text another it (subst (λ x. IsNoFileAnswer proof x other another) same it')
+  one_outcome_answer o status other text another (no_file a _ _ of it) (unknown name of') = absurd cc
+  one_outcome_answer o status other text another (no_file a _ _ of it) (long_report s status' text' of' report past) = absurd cc
+  one_outcome_answer o status other text another (no_file a _ _ of it) (replayed s _ _ of' report within) = absurd cc
+  one_outcome_answer o status other text another (unknown name of) (no_file a _ _ of' it) = absurd cc
+  one_outcome_answer o status other text another (unknown name of) (unknown name' of') =
+      let same : name ≡ name' = cc in
+      (refl, ap (λ n. script_refusal_text proof (unknown_kind n)) same)
+  one_outcome_answer o status other text another (unknown name of) (long_report s status' text' of' report past) = absurd cc
+  one_outcome_answer o status other text another (unknown name of) (replayed s _ _ of' report within) = absurd cc
+  one_outcome_answer o status other text another (long_report s status' text' of report past) again = absurd (no_long_report s status' text' report past)
+  one_outcome_answer o status other text another (replayed s _ _ of report within) (no_file a _ _ of' it) = absurd cc
+  one_outcome_answer o status other text another (replayed s _ _ of report within) (unknown name of') = absurd cc
+  one_outcome_answer o status other text another (replayed s _ _ of report within) (long_report s' status' text' of' report' past) = absurd (no_long_report s' status' text' report' past)
+  one_outcome_answer o status other text another (replayed s _ _ of report within) (replayed s' _ _ of' report' within') =
+      let same : s' ≡ s = cc in
+      one_report leads causes way free (obligation_name q) (obligation_sequent q) s status other text another report (subst (λ t. IsReport leads causes (obligation_name q) (obligation_sequent q) t other another) same report')
+
   one_proof_answer : (status other : Status) (text another : List ℕ) → IsProofAnswer leads causes q proof bytes status text → IsProofAnswer leads causes q proof bytes other another → SameAnswer status text other another
-  one_proof_answer status other text another (no_script none) (no_script none') = equal RefusedScript (unbuilt_text proof)
-  one_proof_answer status other text another (no_script none) (long_report s status' text' reads report past) = absurd (none s reads)
-  one_proof_answer status other text another (no_script none) (replayed s _ _ reads report within) = absurd (none s reads)
-  one_proof_answer status other text another (long_report s status' text' reads report past) again = absurd (no_long_report s status' text' report past)
-  one_proof_answer status other text another (replayed s _ _ reads report within) (no_script none) = absurd (none s reads)
-  one_proof_answer status other text another (replayed s _ _ reads report within) (long_report s' status' text' reads' report' past) = absurd (no_long_report s' status' text' report' past)
-  one_proof_answer status other text another (replayed s _ _ reads report within) (replayed s' _ _ reads' report' within') =
-      let scripts = one_script (obligation_name q) bytes s' s reads' reads in
-      same_by status other text another (one_report leads causes way free (obligation_name q) (obligation_sequent q) s status other text another report (subst (λ t. IsReport leads causes (obligation_name q) (obligation_sequent q) t other another) scripts report'))
+  one_proof_answer status other text another a b =
+      let outcomes = one_outcome (obligation_name q ∷ []) bytes b.outcome a.outcome b.read a.read in
+      same_by status other text another (one_outcome_answer a.outcome status other text another a.answer (subst (λ o. IsOutcomeAnswer leads causes q proof o other another) outcomes b.answer))
 
 -- ---- one answer for words that name files
 

@@ -2,21 +2,22 @@
 use Rattle.std.specs.Prelude.{◌≡◌, ℕ, ◌<◌, ◌≤◌, List, [], ◌∷◌, length, Option, Some, None}
 use Rattle.jd_source.specs.Sources.{Reason, SameReason}
 use Rattle.jd_model.specs.Sequents.{PlainSequent}
-use Rattle.jd_sequent.specs.Trees.{PlainStep}
+use Rattle.jd_bracketed.specs.Tokens.{tokens_of}
+use Rattle.jd_sequent.specs.Trees.{PlainStep, ProofTree}
 use Rattle.jd_sequent.specs.Obligations.{PlainTask}
 use Rattle.jd_sequent.specs.Rules.{LeadsWithinLimits}
 use Rattle.jd_first_steps.specs.Instances.{IsInstance}
 use Rattle.jd_first_rules.specs.Causes.{Cause}
 use Rattle.jd_files.specs.Files.{file_limit, files_limit}
 use Rattle.jd_first_java.specs.Programs.{Program}
-use Rattle.jd_first_script.specs.Scripts as script
-use Rattle.jd_first_script.specs.Scripts.{PlainScript}
+use Rattle.jd_scripts.specs.Answers as script
+use Rattle.jd_proofs.specs.Outcomes.{Outcome, Trees, NoFile, UnknownObligation, IsOutcome}
 use Rattle.jd_first_oblig.specs.Obligations.{obligation_name, obligation_sequent}
 use Rattle.jd_first_meaning.specs.ClosedPrograms.{task_of}
 use Rattle.jdl.specs.Words.{replay_words}
 use Rattle.jdl.specs.FileAnswers.{IsRefusal}
 use Rattle.jdl.specs.Sources.{AreProgram}
-use Rattle.jdl.specs.Reports.{usage_text, unbuilt_text, refusal_text, files_limit_text, proof_limit_text, file_limit_text, report_limit_text, IsReport}
+use Rattle.jdl.specs.Reports.{usage_text, refusal_text, script_kind, unknown_kind, script_refusal_text, files_limit_text, proof_limit_text, steps_limit_text, file_limit_text, report_limit_text, IsReport}
 use Rattle.jdl.specs.declared.status.Status.{Status}
 use Rattle.jdl.specs.declared.status.Status.TheVariants.{Usage, RefusedSource, RefusedScript, Limit}
 
@@ -72,12 +73,28 @@ pub record AreRead (words : List (List ℕ)) (contents : List ℕ → Option (Li
   pub proof_read : IsProofRead words contents proof names proof_bytes
   pub files_told : HaveBytes contents names files
 
--- the status and the text for a program and the bytes of the proof file of this name; a step of the program's obligation leads
+-- the proof file has this proof, or none, for the obligation of this name, and no other
+abbrev pub HasProof : List ℕ → List ℕ → Option ProofTree → Type 0
+HasProof name bytes p = IsOutcome (name ∷ []) (tokens_of bytes) (Trees (p ∷ []))
+
+-- the status and the text for a proof file of this name that is no file of scripts
+pub data IsNoFileAnswer (file : List ℕ) (a : script.Answer) : Status → List ℕ → Type 0 where
+  refused_file : (kind : List ℕ) → script_kind a ≡ Some kind → IsNoFileAnswer file a RefusedScript (script_refusal_text file kind)
+  many_steps : a ≡ script.TooManySteps → IsNoFileAnswer file a Limit steps_limit_text
+
+-- the status and the text for what the proof file of this name is for a program's obligation; a step of that obligation leads
 -- from a sequent to its premises, or has causes
-pub data IsProofAnswer (leads : PlainSequent → PlainStep → List PlainSequent → Type 0) (causes : PlainSequent → PlainStep → ℕ → Type 0) (q : Program) (proof bytes : List ℕ) : Status → List ℕ → Type 0 where
-  no_script : ((s : PlainScript) → script.Reads (obligation_name q) bytes s → ⊥) → IsProofAnswer leads causes q proof bytes RefusedScript (unbuilt_text proof)
-  long_report : (s : PlainScript) (status : Status) (text : List ℕ) → script.Reads (obligation_name q) bytes s → IsReport leads causes (obligation_name q) (obligation_sequent q) s status text → report_limit < length text → IsProofAnswer leads causes q proof bytes Limit report_limit_text
-  replayed : (s : PlainScript) (status : Status) (text : List ℕ) → script.Reads (obligation_name q) bytes s → IsReport leads causes (obligation_name q) (obligation_sequent q) s status text → length text ≤ report_limit → IsProofAnswer leads causes q proof bytes status text
+pub data IsOutcomeAnswer (leads : PlainSequent → PlainStep → List PlainSequent → Type 0) (causes : PlainSequent → PlainStep → ℕ → Type 0) (q : Program) (file : List ℕ) (o : Outcome) : Status → List ℕ → Type 0 where
+  no_file : (a : script.Answer) (status : Status) (text : List ℕ) → o ≡ NoFile a → IsNoFileAnswer file a status text → IsOutcomeAnswer leads causes q file o status text
+  unknown : (name : List ℕ) → o ≡ UnknownObligation name → IsOutcomeAnswer leads causes q file o RefusedScript (script_refusal_text file (unknown_kind name))
+  long_report : (p : Option ProofTree) (status : Status) (text : List ℕ) → o ≡ Trees (p ∷ []) → IsReport leads causes (obligation_name q) (obligation_sequent q) p status text → report_limit < length text → IsOutcomeAnswer leads causes q file o Limit report_limit_text
+  replayed : (p : Option ProofTree) (status : Status) (text : List ℕ) → o ≡ Trees (p ∷ []) → IsReport leads causes (obligation_name q) (obligation_sequent q) p status text → length text ≤ report_limit → IsOutcomeAnswer leads causes q file o status text
+
+-- the status and the text for a program and the bytes of the proof file of this name
+pub record IsProofAnswer (leads : PlainSequent → PlainStep → List PlainSequent → Type 0) (causes : PlainSequent → PlainStep → ℕ → Type 0) (q : Program) (file bytes : List ℕ) (status : Status) (text : List ℕ) : Type 0 where
+  pub outcome : Outcome
+  pub read : IsOutcome (obligation_name q ∷ []) (tokens_of bytes) outcome
+  pub answer : IsOutcomeAnswer leads causes q file outcome status text
 
 -- the status and the text that are answered
 pub data IsAnswer (leads : Program → PlainSequent → PlainStep → List PlainSequent → Type 0) (causes : Program → PlainSequent → PlainStep → ℕ → Type 0) (words : List (List ℕ)) (contents : List ℕ → Option (List ℕ)) : Status → List ℕ → Type 0 where

@@ -4,6 +4,7 @@ pub mod KeptPrograms
 pub mod Outcomes
 pub mod Refusing
 pub mod Reports
+pub mod Scripts
 pub mod Sources
 pub mod Statuses
 pub mod Understanding

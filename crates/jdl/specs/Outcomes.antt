@@ -7,15 +7,16 @@ use Rattle.jd_model.specs.Sequents.{PlainSequent}
 use Rattle.jd_sequent.specs.Trees.{PlainStep, ProofTree}
 use Rattle.jd_sequent.specs.Derives.{Derives}
 use Rattle.jd_first_java.specs.Programs.{Program}
-use Rattle.jd_first_script.specs.Scripts as script
-use Rattle.jd_first_script.specs.Scripts.{PlainScript, OneProof}
+use Rattle.jd_bracketed.specs.Tokens.{tokens_of}
+use Rattle.jd_scripts.specs.Answers as script
+use Rattle.jd_proofs.specs.Outcomes.{NoFile, IsOutcome}
 use Rattle.jd_first_oblig.specs.Obligations.{obligation_name, obligation_sequent}
 use Rattle.jdl.specs.Words.{replay_words}
 use Rattle.jd_files.specs.Files.{files_limit}
 use Rattle.jdl.specs.FileAnswers.{IsRefusal}
 use Rattle.jdl.specs.Sources.{AreProgram}
 use Rattle.jdl.specs.Reports.{IsReport}
-use Rattle.jdl.specs.Answers.{proof_limit, report_limit, HaveLongFile, IsProofRead, AreRead, IsAnswer}
+use Rattle.jdl.specs.Answers.{proof_limit, report_limit, HaveLongFile, IsProofRead, AreRead, HasProof, IsAnswer}
 use Rattle.jdl.specs.declared.status.Status.{Status}
 use Rattle.jdl.specs.declared.status.Status.TheVariants.{RefusedSource, Limit}
 
@@ -63,29 +64,29 @@ pub record HasMoreFaults (words : List (List ℕ)) (before after : List ℕ → 
 
 -- ---- what is accepted and what is refused
 
--- the files are a program and a script of its obligation
-pub record AreUnderstood (words : List (List ℕ)) (contents : List ℕ → Option (List ℕ)) (program : Program) (plain : PlainScript) : Type 0 where
+-- the files are a program, and a file of scripts with this proof or none for its obligation, and no other
+pub record AreUnderstood (words : List (List ℕ)) (contents : List ℕ → Option (List ℕ)) (program : Program) (plain : Option ProofTree) : Type 0 where
   pub proof : List ℕ
   pub proof_bytes : List ℕ
   pub names : List (List ℕ)
   pub files : List (List ℕ)
   pub read : AreRead words contents proof names proof_bytes files
   pub java_ : AreProgram files program
-  pub script_ : script.Reads (obligation_name program) proof_bytes plain
+  pub script_ : HasProof (obligation_name program) proof_bytes plain
 
 -- the proof derives the obligation's sequent, and leaves nothing to be shown
 pub record IsAccepted (leads : Program → PlainSequent → PlainStep → List PlainSequent → Type 0) (words : List (List ℕ)) (contents : List ℕ → Option (List ℕ)) : Type 0 where
   pub program : Program
   pub tree : ProofTree
-  pub understood : AreUnderstood words contents program (OneProof tree)
+  pub understood : AreUnderstood words contents program (Some tree)
   pub derived : Derives (leads program) tree (obligation_sequent program) []
 
 -- the script has no proof that derives the obligation's sequent and leaves nothing to be shown
 pub record IsNotAccepted (leads : Program → PlainSequent → PlainStep → List PlainSequent → Type 0) (words : List (List ℕ)) (contents : List ℕ → Option (List ℕ)) : Type 0 where
   pub program : Program
-  pub plain : PlainScript
+  pub plain : Option ProofTree
   pub understood : AreUnderstood words contents program plain
-  pub not_derived : (tree : ProofTree) → plain ≡ OneProof tree → Derives (leads program) tree (obligation_sequent program) [] → ⊥
+  pub not_derived : (tree : ProofTree) → plain ≡ Some tree → Derives (leads program) tree (obligation_sequent program) [] → ⊥
 
 -- the Java files are not read, have no program's classes, or a form that has no obligation yet
 pub record IsSourceRefused (words : List (List ℕ)) (contents : List ℕ → Option (List ℕ)) : Type 0 where
@@ -97,7 +98,7 @@ pub record IsSourceRefused (words : List (List ℕ)) (contents : List ℕ → Op
   pub text : List ℕ
   pub refusal : IsRefusal names files RefusedSource text
 
--- the Java files are a program, and the proof file is no script of its obligation
+-- the Java files are a program, and the proof file is no file of scripts, or one with a proof of no obligation
 pub record IsScriptRefused (words : List (List ℕ)) (contents : List ℕ → Option (List ℕ)) : Type 0 where
   pub proof : List ℕ
   pub proof_bytes : List ℕ
@@ -106,12 +107,13 @@ pub record IsScriptRefused (words : List (List ℕ)) (contents : List ℕ → Op
   pub program : Program
   pub read : AreRead words contents proof names proof_bytes files
   pub java_ : AreProgram files program
-  pub no_script : (s : PlainScript) → script.Reads (obligation_name program) proof_bytes s → ⊥
+  pub no_script : (p : Option ProofTree) → HasProof (obligation_name program) proof_bytes p → ⊥
 
--- there are too many files, classes or methods, or the proof file, a Java file or the report is too long
+-- there are too many files, classes, methods or steps, or the proof file, a Java file or the report is too long
 pub data IsPastLimit (leads : Program → PlainSequent → PlainStep → List PlainSequent → Type 0) (causes : Program → PlainSequent → PlainStep → ℕ → Type 0) (words : List (List ℕ)) (contents : List ℕ → Option (List ℕ)) : Type 0 where
   many_files : (proof : List ℕ) (names : List (List ℕ)) → replay_words words ≡ Some (proof, names) → files_limit < length names → IsPastLimit leads causes words contents
   long_proof : (proof bytes : List ℕ) (names : List (List ℕ)) → replay_words words ≡ Some (proof, names) → contents proof ≡ Some bytes → proof_limit < length bytes → IsPastLimit leads causes words contents
   long_file : (proof proof_bytes : List ℕ) (names : List (List ℕ)) → IsProofRead words contents proof names proof_bytes → HaveLongFile contents names → IsPastLimit leads causes words contents
   many_parts : (proof proof_bytes text : List ℕ) (names files : List (List ℕ)) → AreRead words contents proof names proof_bytes files → IsRefusal names files Limit text → IsPastLimit leads causes words contents
-  long_report : (program : Program) (plain : PlainScript) (status : Status) (text : List ℕ) → AreUnderstood words contents program plain → IsReport (leads program) (causes program) (obligation_name program) (obligation_sequent program) plain status text → report_limit < length text → IsPastLimit leads causes words contents
+  many_steps : (proof proof_bytes : List ℕ) (names files : List (List ℕ)) (program : Program) → AreRead words contents proof names proof_bytes files → AreProgram files program → IsOutcome (obligation_name program ∷ []) (tokens_of proof_bytes) (NoFile script.TooManySteps) → IsPastLimit leads causes words contents
+  long_report : (program : Program) (plain : Option ProofTree) (status : Status) (text : List ℕ) → AreUnderstood words contents program plain → IsReport (leads program) (causes program) (obligation_name program) (obligation_sequent program) plain status text → report_limit < length text → IsPastLimit leads causes words contents

@@ -14,7 +14,8 @@ use Rattle.jd_replay.specs.declared.verdict.Verdict.TheVariants.{Closed, Open, B
 use Rattle.jd_replay.specs.declared.verdict.Cause.{Cause}
 use Rattle.jd_replay.specs.declared.verdict.Cause.TheVariants.{Rule, BranchCount}
 use Rattle.jd_replay.specs.FirstBad.{FirstBad}
-use Rattle.jd_first_script.specs.Scripts.{PlainScript, NoProof, OneProof}
+use Rattle.jd_scripts.specs.Answers as script
+use Rattle.jd_scripts.specs.Answers.{Answer}
 use Rattle.jdl.specs.declared.status.Status.{Status}
 use Rattle.jdl.specs.declared.status.Status.TheVariants.{Done, NotAccepted}
 
@@ -64,6 +65,23 @@ class_kind classes.ManyMethods = None
 abbrev pub class_refusal_text : List ℕ → List ℕ → ℕ → List ℕ
 class_refusal_text name kind at = line (codes "refused " ++ (name ++ (32 ∷ placed_text kind at)))
 
+-- the kind of a refusal of a proof file; none where it is read, and none of a limit
+abbrev pub script_kind : Answer → Option (List ℕ)
+script_kind (script.Proofs ps) = None
+script_kind script.OtherVersion = Some (codes "Version")
+script_kind (script.Syntax at) = Some (placed_text (codes "Syntax") at)
+script_kind (script.DuplicateProof name) = Some (codes "DuplicateProof " ++ name)
+script_kind script.Truncated = Some (codes "Truncated")
+script_kind script.TooManySteps = None
+script_kind (script.TooDeep at) = Some (placed_text (codes "TooDeep") at)
+
+-- of a proof of this name, which no obligation has
+abbrev pub unknown_kind : List ℕ → List ℕ
+unknown_kind name = codes "UnknownObligation " ++ name
+
+abbrev pub script_refusal_text : List ℕ → List ℕ → List ℕ
+script_refusal_text file kind = line (codes "refused " ++ (file ++ (32 ∷ kind)))
+
 -- ---- the lines of limits
 
 abbrev pub files_limit_text : List ℕ
@@ -77,6 +95,10 @@ method_limit_text = line (codes "limit methods 2048")
 
 abbrev pub proof_limit_text : List ℕ
 proof_limit_text = line (codes "limit proof-bytes 16777216")
+
+-- of the steps of a proof
+abbrev pub steps_limit_text : List ℕ
+steps_limit_text = line (codes "limit nodes 500000")
 
 abbrev pub file_limit_text : List ℕ
 file_limit_text = line (codes "limit file-bytes 1048576")
@@ -136,10 +158,10 @@ verdict_text name (Closed steps) = closed_text name steps
 verdict_text name (Open goals) = open_text name (length goals.items)
 verdict_text name (Broken node cause) = bad_text name node cause
 
--- the report of a script for an obligation of this name and sequent, where a step leads from a sequent to its premises or has
--- causes by their numbers; of a proof that is bad it names the first bad step and its cause
-pub data IsReport (leads : PlainSequent → PlainStep → List PlainSequent → Type 0) (causes : PlainSequent → PlainStep → ℕ → Type 0) (name : List ℕ) (goal : PlainSequent) (script : PlainScript) : Status → List ℕ → Type 0 where
-  missing : script ≡ NoProof → IsReport leads causes name goal script NotAccepted (missing_text name)
-  closed : (tree : ProofTree) → script ≡ OneProof tree → Derives leads tree goal [] → IsReport leads causes name goal script Done (closed_text name (steps_in tree))
-  opened : (tree : ProofTree) (goals : List PlainSequent) → script ≡ OneProof tree → Derives leads tree goal goals → 0 < length goals → IsReport leads causes name goal script NotAccepted (open_text name (length goals))
-  broken : (tree : ProofTree) (node : ℕ) (cause : Cause) → script ≡ OneProof tree → FirstBad leads causes tree goal node cause → IsReport leads causes name goal script NotAccepted (bad_text name node cause)
+-- the report of a proof or none for an obligation of this name and sequent, where a step leads from a sequent to its premises or
+-- has causes by their numbers; of a proof that is bad it names the first bad step and its cause
+pub data IsReport (leads : PlainSequent → PlainStep → List PlainSequent → Type 0) (causes : PlainSequent → PlainStep → ℕ → Type 0) (name : List ℕ) (goal : PlainSequent) (proof : Option ProofTree) : Status → List ℕ → Type 0 where
+  missing : proof ≡ None → IsReport leads causes name goal proof NotAccepted (missing_text name)
+  closed : (tree : ProofTree) → proof ≡ Some tree → Derives leads tree goal [] → IsReport leads causes name goal proof Done (closed_text name (steps_in tree))
+  opened : (tree : ProofTree) (goals : List PlainSequent) → proof ≡ Some tree → Derives leads tree goal goals → 0 < length goals → IsReport leads causes name goal proof NotAccepted (open_text name (length goals))
+  broken : (tree : ProofTree) (node : ℕ) (cause : Cause) → proof ≡ Some tree → FirstBad leads causes tree goal node cause → IsReport leads causes name goal proof NotAccepted (bad_text name node cause)

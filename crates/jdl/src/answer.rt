@@ -1,4 +1,4 @@
-ghost use Rattle.std.specs.Prelude.{◌≡◌, ◌<◌, ◌≤◌, ℕ, List, Option, length, Some, None, IfOk, IfSome, OnOk, IsErrOf, MatchOption, map};
+ghost use Rattle.std.specs.Prelude.{◌≡◌, ◌<◌, ◌≤◌, ℕ, List, Option, length, Some, None, IfOk, IfSome, OnOk, IsErrOf, MatchOption, map, option_map};
 ghost use Rattle.std.specs.List.{All};
 ghost use Rattle.std.specs.Option.{ForSome};
 ghost use Rattle.jd_base.specs.Faults.{Rose, SameCounts, SameContents};
@@ -8,11 +8,11 @@ ghost use Rattle.jd_replay.specs.Verdicts.{IsVerdict};
 ghost use Rattle.jd_files.specs.Files.{AreProgramClasses, file_limit, files_limit};
 ghost use Rattle.jd_first_java.specs.Programs.{IsProgram};
 ghost use Rattle.jd_first_java.specs.Reads.{program_view};
-ghost use Rattle.jd_first_script.specs.Scripts.{script_view};
+ghost use Rattle.jd_proofs.specs.Answers.{tree_view};
 ghost use Rattle.jd_first_oblig.specs.Obligations.{obligation_name, obligation_sequent};
 ghost use Rattle.jdl.specs.Words.{word_texts, replay_words};
 ghost use Rattle.jdl.specs.Reports.{IsReport, report_limit_text};
-ghost use Rattle.jdl.specs.Answers.{AcceptsObligations, leads_of, causes_of, report_limit, AreRead, AreTold, HaveBytes, HaveLongFile, IsAnswer, IsProofAnswer, SameAnswer, IsTold};
+ghost use Rattle.jdl.specs.Answers.{AcceptsObligations, leads_of, causes_of, proof_limit, report_limit, AreRead, AreTold, HaveBytes, HaveLongFile, IsAnswer, IsProofAnswer, SameAnswer, IsTold};
 ghost use Rattle.jdl.specs.Statuses.{IsJudged, IsWritten};
 ghost use Rattle.jdl.specs.FileAnswers.{IsRefusal};
 ghost use Rattle.jdl.specs.Outcomes.{IsReadFault, HasMoreFaults, HasRisen};
@@ -22,6 +22,7 @@ ghost use Rattle.jdl.specs.declared.answer.Stop.TheVariants.{NoMemory as OutOfMe
 
 use crate::java::refused;
 use crate::report::{missing, status_of, text_of};
+use crate::script::{proof_of, unread};
 use crate::status::Status;
 use crate::text::{file_too_long, proof_too_long, report_too_long, too_many_files, unbuilt, usage};
 use crate::words::{ReplayFiles, replay_files};
@@ -29,7 +30,6 @@ use jd_base::{Library, NoMemory, ReadRefusal, read_whole};
 use jd_files::{classes_of, one_refusal};
 use jd_first_java::{Program, read_program};
 use jd_first_oblig::{contracts, name_of, obligation};
-use jd_first_script::{Script, read_script};
 use jd_replay::{Verdict, replay};
 use jd_sequent::{RuleSet, ScriptTree, Task};
 use std::alloc::{AllocFailed, Global};
@@ -98,27 +98,27 @@ fn verdict_of<R: RuleSet>(
     replay(alloc, rules, &task, &obligation.sequent, tree)
 }
 
-// The report of a script for the obligation of a program.
+// The report of a proof, if there is one, for the obligation of a program.
 fn replayed<R: RuleSet>(
     alloc: Global,
     rules: &R,
     program: &Program,
-    script: &Script,
+    proof: Option<ScriptTree>,
 ) -> Result<Answer, NoMemory>
     requires accepts { AcceptsObligations (R.accepts rules.now) }
     requires program { IsProgram (program_view program.now) }
     ensures report { IfOk result
-        (λ a. IsReport (leads_of (R.instance rules.now) (program_view program.now)) (causes_of (R.cause rules.now) (program_view program.now)) (obligation_name (program_view program.now)) (obligation_sequent (program_view program.now)) (script_view script.now) a.status a.text.items) }
+        (λ a. IsReport (leads_of (R.instance rules.now) (program_view program.now)) (causes_of (R.cause rules.now) (program_view program.now)) (obligation_name (program_view program.now)) (obligation_sequent (program_view program.now)) (option_map tree_view proof) a.status a.text.items) }
     ensures status { IfOk result (λ a. IsJudged a.status) }
 {
     let name = name_of(alloc, program)?;
-    match script {
-        Script::NoProof => Ok(Answer {
+    match proof {
+        None => Ok(Answer {
             status: Status::NotAccepted,
             text: missing(alloc, &name)?,
         }),
-        Script::Proof(tree) => {
-            let verdict = verdict_of(alloc, rules, program, tree)?;
+        Some(tree) => {
+            let verdict = verdict_of(alloc, rules, program, &tree)?;
             Ok(Answer {
                 status: status_of(&verdict),
                 text: text_of(alloc, &name, &verdict)?,
@@ -212,17 +212,16 @@ fn answer_for<R: RuleSet>(
 ) -> Result<Answer, NoMemory>
     requires accepts { AcceptsObligations (R.accepts rules.now) }
     requires program { IsProgram (program_view program.now) }
+    requires within { length proof.now ≤ proof_limit }
     ensures answer { IfOk result (λ a. IsProofAnswer (leads_of (R.instance rules.now) (program_view program.now)) (causes_of (R.cause rules.now) (program_view program.now)) (program_view program.now) name.now proof.now a.status a.text.items) }
     ensures status { IfOk result (λ a. IsJudged a.status) }
 {
     let obligation = name_of(alloc, program)?;
-    let Some(script) = read_script(alloc, proof, &obligation)? else {
-        return Ok(Answer {
-            status: Status::RefusedScript,
-            text: unbuilt(alloc, name)?,
-        });
+    let proof = match proof_of(alloc, obligation, proof) {
+        Err(refusal) => return unread(alloc, name, &refusal),
+        Ok(proof) => proof,
     };
-    let report = replayed(alloc, rules, program, &script)?;
+    let report = replayed(alloc, rules, program, proof)?;
     let answer = within_limit(alloc, report)?;
     Ok(answer)
 }
@@ -240,6 +239,7 @@ fn judged<R: RuleSet>(
     requires few { length named.now.files.now ≤ files_limit }
     requires each { length named.now.files.now ≡ length files.now }
     requires within { All (λ f. length f.items ≤ file_limit) files.now }
+    requires proof_within { length proof.now ≤ proof_limit }
     ensures answer { IfOk result (λ a. (words : List (List ℕ)) (contents : List ℕ → Option (List ℕ))
         → AreRead words contents named.now.proof.now (word_texts named.now.files.now) proof.now (map (λ f. f.items) files.now)
         → IsAnswer (leads_of (R.instance rules.now)) (causes_of (R.cause rules.now)) words contents a.status a.text.items) }

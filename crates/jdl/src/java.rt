@@ -10,7 +10,7 @@ ghost use Rattle.jdl.specs.Words.{word_texts};
 
 use crate::answer::Answer;
 use crate::status::Status;
-use crate::text::{add_decimal, too_many_classes, too_many_methods};
+use crate::text::{add_placed, too_many_classes, too_many_methods};
 use jd_base::{NoMemory, copy_bytes};
 use jd_classes::ClassRefusal;
 use jd_files::FilesRefusal;
@@ -18,16 +18,6 @@ use jd_jparse::ParseRefusal;
 use jd_lex::LexRefusal;
 use jd_source::SourceRefusal;
 use std::alloc::Global;
-
-// Adds a kind of refusal and its place.
-fn add_placed(alloc: Global, out: &mut Vec<u8>, kind: &[u8], at: u32) -> Result<(), NoMemory>
-    ensures { OnOk result (out.new.items ≡ out.old.items ++ placed_text kind.now at) }
-{
-    out.extend_from_slice(kind)?;
-    out.extend_from_slice(b" at ")?;
-    add_decimal(alloc, out, u64::from(at))?;
-    Ok(())
-}
 
 // Adds a token that is not supported, and its place.
 fn add_unsupported(alloc: Global, out: &mut Vec<u8>, at: u32, what: &[u8]) -> Result<(), NoMemory>

@@ -7,6 +7,7 @@ mod file_tests;
 mod java;
 mod report;
 mod run;
+mod script;
 mod status;
 #[cfg(test)]
 mod tests;

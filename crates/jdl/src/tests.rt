@@ -258,12 +258,123 @@ fn replays(rt: HostRuntime) -> Result<(), Fail> {
             b"T::id#1 bad 1 15 BranchCount 2 1\naccepted 0 of 1\n".as_slice(),
         ),
         (
-            b"(jdl 2)".as_slice(),
-            6,
-            b"refused p.jdl Unbuilt at 0\n".as_slice(),
+            b"(jdl 1 (proof T::id#1 (cut - [] [(phi true)] -)))".as_slice(),
+            1,
+            b"T::id#1 bad 1 1 UnknownRule\naccepted 0 of 1\n".as_slice(),
+        ),
+        (
+            b"(jdl 1 (proof T::id#1 (frameReturn R1.4 [] [(phi (and true true))] -)))".as_slice(),
+            1,
+            b"T::id#1 bad 1 7 BadInst\naccepted 0 of 1\n".as_slice(),
         ),
     ] {
         let (ended, told) = replayed(alloc, proof, IDENTITY, &[], &[])?;
+        assert_eq!(rt; told.as_slice(), want);
+        assert_eq!(rt; ended.code(), status);
+    }
+    Ok(())
+}
+
+#[test]
+fn refuses_other_scripts(rt: HostRuntime) -> Result<(), Fail> {
+    let alloc = rt.alloc();
+    for (proof, want) in [
+        (b"(jdl 2)".as_slice(), b"refused p.jdl Version\n".as_slice()),
+        (b"(jdl 7)".as_slice(), b"refused p.jdl Version\n".as_slice()),
+        (b"".as_slice(), b"refused p.jdl Truncated\n".as_slice()),
+        (
+            b"(jdl 1 (proof T::id#1 (closeTrue R1 [] []".as_slice(),
+            b"refused p.jdl Truncated\n".as_slice(),
+        ),
+        (
+            b"(jdl 1) x".as_slice(),
+            b"refused p.jdl Syntax at 8\n".as_slice(),
+        ),
+        (
+            b"(jdl 01)".as_slice(),
+            b"refused p.jdl Syntax at 5\n".as_slice(),
+        ),
+        (
+            b"(jdl 1 (proof T::id#1 (closeTrue R0 [] [])))".as_slice(),
+            b"refused p.jdl Syntax at 33\n".as_slice(),
+        ),
+        (
+            b"(jdl 1 (proof T::id#1 -) (proof T::id#1 -))".as_slice(),
+            b"refused p.jdl DuplicateProof T::id#1\n".as_slice(),
+        ),
+        (
+            b"(jdl 1 (proof T::no#1 -))".as_slice(),
+            b"refused p.jdl UnknownObligation T::no#1\n".as_slice(),
+        ),
+        (
+            b"(jdl 1 (proof T::id#1 -) (proof T::no#1 -) (proof T::on#1 -))".as_slice(),
+            b"refused p.jdl UnknownObligation T::no#1\n".as_slice(),
+        ),
+        (
+            b"(jdl 1 (proof T::no#1 -) x)".as_slice(),
+            b"refused p.jdl Syntax at 25\n".as_slice(),
+        ),
+    ] {
+        let (ended, told) = replayed(alloc, proof, IDENTITY, &[], &[])?;
+        assert_eq!(rt; told.as_slice(), want);
+        assert_eq!(rt; ended.code(), 6);
+    }
+    Ok(())
+}
+
+// A proof with an instantiation of so many levels of brackets.
+fn with_levels(alloc: Global, levels: u32) -> Result<Vec<u8>, AllocError> {
+    let mut proof = b"(jdl 1 (proof T::id#1 (cut - [] [(phi ".to_vec(alloc)?;
+    for _ in 0..levels {
+        proof.push(b'(')?;
+    }
+    for _ in 0..levels {
+        proof.push(b')')?;
+    }
+    proof.extend_from_slice(b")] -)))")?;
+    Ok(proof)
+}
+
+// A proof of so many steps behind one another.
+fn with_steps(alloc: Global, steps: u32) -> Result<Vec<u8>, AllocError> {
+    let mut proof = b"(jdl 1 (proof T::id#1 ".to_vec(alloc)?;
+    for _ in 0..steps {
+        proof.extend_from_slice(b"(cut - [] [] ")?;
+    }
+    proof.push(b'-')?;
+    for _ in 0..steps {
+        proof.push(b')')?;
+    }
+    proof.extend_from_slice(b"))")?;
+    Ok(proof)
+}
+
+#[test]
+fn limits_of_scripts(rt: HostRuntime) -> Result<(), Fail> {
+    let alloc = rt.alloc();
+    for (levels, status, want) in [
+        (
+            1000,
+            1,
+            b"T::id#1 bad 1 1 UnknownRule\naccepted 0 of 1\n".as_slice(),
+        ),
+        (1001, 6, b"refused p.jdl TooDeep at 1038\n".as_slice()),
+    ] {
+        let proof = with_levels(alloc, levels)?;
+        let (ended, told) = replayed(alloc, &proof, IDENTITY, &[], &[])?;
+        assert_eq!(rt; told.as_slice(), want);
+        assert_eq!(rt; ended.code(), status);
+    }
+    for (steps, status, want) in [
+        (
+            500_000,
+            1,
+            b"T::id#1 bad 1 1 UnknownRule\naccepted 0 of 1\n".as_slice(),
+        ),
+        (500_001, 7, b"limit nodes 500000\n".as_slice()),
+    ] {
+        let proof = with_steps(alloc, steps)?;
+        let (ended, told) = replayed(alloc, &proof, IDENTITY, &[], &[])?;
         assert_eq!(rt; told.as_slice(), want);
         assert_eq!(rt; ended.code(), status);
     }

@@ -1,6 +1,6 @@
 ghost use Rattle.std.specs.Prelude.{◌≡◌, ◌++◌, IfOk, OnOk};
 ghost use Rattle.std.specs.Fmt.{decimal};
-ghost use Rattle.jdl.specs.Reports.{class_limit_text, file_limit_text, files_limit_text, line, method_limit_text, proof_limit_text, report_limit_text, unbuilt_text, usage_text};
+ghost use Rattle.jdl.specs.Reports.{class_limit_text, file_limit_text, files_limit_text, line, method_limit_text, placed_text, proof_limit_text, report_limit_text, steps_limit_text, unbuilt_text, usage_text};
 
 use jd_base::{NoMemory, copy_bytes};
 use std::alloc::Global;
@@ -11,6 +11,16 @@ pub fn add_decimal(alloc: Global, out: &mut Vec<u8>, number: u64) -> Result<(), 
 {
     let digits = number.to_string(alloc)?;
     out.extend_from_slice(digits.as_bytes())?;
+    Ok(())
+}
+
+/// Adds a kind of refusal and its place.
+pub fn add_placed(alloc: Global, out: &mut Vec<u8>, kind: &[u8], at: u32) -> Result<(), NoMemory>
+    ensures { OnOk result (out.new.items ≡ out.old.items ++ placed_text kind.now at) }
+{
+    out.extend_from_slice(kind)?;
+    out.extend_from_slice(b" at ")?;
+    add_decimal(alloc, out, u64::from(at))?;
     Ok(())
 }
 
@@ -56,6 +66,13 @@ pub fn proof_too_long(alloc: Global) -> Result<Vec<u8>, NoMemory>
     ensures { IfOk result (λ v. v.items ≡ proof_limit_text) }
 {
     line_of(alloc, b"limit proof-bytes 16777216")
+}
+
+/// The line for a proof of too many steps.
+pub fn too_many_steps(alloc: Global) -> Result<Vec<u8>, NoMemory>
+    ensures { IfOk result (λ v. v.items ≡ steps_limit_text) }
+{
+    line_of(alloc, b"limit nodes 500000")
 }
 
 /// The line for a Java file that is too long.

@@ -1,6 +1,6 @@
 use Rattle.jd_jtokens.specs.Terminals.{terminal_view}
 use Rattle.jd_jstatements.specs.Views.{statement_view}
-use Rattle.jd_jbody.specs.Views.{stack_view}
+use Rattle.jd_jstates.specs.Views.{stack_view}
 use Rattle.jd_jbody.proofs.Wanting.{else_follows, statement_follows}
 use Rattle.jd_jbody.proofs.behind.did.Goals as goal
 

@@ -1,8 +1,8 @@
 use Rattle.std.proofs.Common.{ap, ◌∷◌, ◌∙◌}
 use Rattle.jd_jtokens.specs.Terminals.{terminal_view}
 use Rattle.jd_jstatements.specs.Views.{statement_view, statements_view}
-use Rattle.jd_jbody.specs.declared.reading.Frame.{Frame}
-use Rattle.jd_jbody.specs.Views.{frame_view, role_view, stack_view}
+use Rattle.jd_jstates.specs.declared.reading.Frame.{Frame}
+use Rattle.jd_jstates.specs.Views.{frame_view, role_view, stack_view}
 use Rattle.jd_jbody.proofs.Wanting.{another}
 use Rattle.jd_jbody.proofs.behind.next_statement.Goals as goal
 

@@ -1,7 +1,7 @@
 use Rattle.std.proofs.Common.{sym, ◌∙◌}
 use Rattle.jd_jtokens.specs.Terminals.{terminal_view}
 use Rattle.jd_jstatements.specs.Views.{block_view, handlers_view, statement_view}
-use Rattle.jd_jbody.specs.Views.{stack_view}
+use Rattle.jd_jstates.specs.Views.{stack_view}
 use Rattle.jd_jbody.proofs.Wanting.{try_ends}
 use Rattle.jd_jbody.proofs.behind.tries.Goals as goal
 

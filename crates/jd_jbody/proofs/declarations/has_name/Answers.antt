@@ -2,7 +2,7 @@ use Rattle.std.proofs.Common.{option_map, sym, ◌∙◌}
 use Rattle.jd_jtokens.specs.Terminals.{terminal_view}
 use Rattle.jd_jexpr.specs.Views.{type_view}
 use Rattle.jd_jstatements.specs.Views.{names_view}
-use Rattle.jd_jbody.specs.Views.{declaration_view, names_before, stack_view}
+use Rattle.jd_jstates.specs.Views.{declaration_view, names_before, stack_view}
 use Rattle.jd_jbody.proofs.Wanting.{name_goes_on}
 use Rattle.jd_jbody.proofs.declarations.has_name.Goals as goal
 

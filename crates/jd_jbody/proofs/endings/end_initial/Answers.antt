@@ -1,7 +1,7 @@
 use Rattle.jd_jtokens.specs.Terminals.{terminal_view}
 use Rattle.jd_jexpr.specs.Views.{type_view}
 use Rattle.jd_jstatements.specs.Views.{names_view}
-use Rattle.jd_jbody.specs.Views.{declaration_view, stack_view}
+use Rattle.jd_jstates.specs.Views.{declaration_view, stack_view}
 use Rattle.jd_jbody.proofs.Wanting.{all_declared}
 use Rattle.jd_jbody.proofs.endings.end_initial.Goals as goal
 

@@ -2,7 +2,7 @@ use Rattle.std.proofs.Common.{ap, option_map, sym, ◌∙◌}
 use Rattle.jd_jtokens.specs.Terminals.{terminal_view}
 use Rattle.jd_jexpr.specs.Views.{list_view, value_view}
 use Rattle.jd_jstatements.specs.Views.{head_view, open_view}
-use Rattle.jd_jbody.specs.Views.{items_before, list_place_view, stack_view}
+use Rattle.jd_jstates.specs.Views.{items_before, list_place_view, stack_view}
 use Rattle.jd_jbody.proofs.Wanting.{update_item}
 use Rattle.jd_jbody.proofs.endings.end_item.Goals as goal
 

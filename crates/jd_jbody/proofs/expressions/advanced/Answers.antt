@@ -1,6 +1,6 @@
 use Rattle.jd_jtokens.specs.Terminals.{terminal_view}
 use Rattle.jd_jexpr.specs.Views.{reading_view, value_view}
-use Rattle.jd_jbody.specs.Views.{hole_view, stack_view}
+use Rattle.jd_jstates.specs.Views.{hole_view, stack_view}
 use Rattle.jd_jbody.proofs.Ending.{ending, it_ends, it_is_refused, refusing}
 use Rattle.jd_jbody.proofs.expressions.advanced.Goals as goal
 

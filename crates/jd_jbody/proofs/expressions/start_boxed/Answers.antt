@@ -1,6 +1,6 @@
 use Rattle.jd_jtokens.specs.Terminals.{terminal_view}
 use Rattle.jd_jexpr.specs.Views.{reading_view}
-use Rattle.jd_jbody.specs.Views.{hole_view, stack_view}
+use Rattle.jd_jstates.specs.Views.{hole_view, stack_view}
 use Rattle.jd_jbody.proofs.Wanting.{started}
 use Rattle.jd_jbody.proofs.expressions.start_boxed.Goals as goal
 

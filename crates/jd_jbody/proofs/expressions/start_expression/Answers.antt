@@ -3,7 +3,7 @@ use Rattle.jd_jgrammar.specs.StatementReader as reader
 use Rattle.jd_jtokens.specs.Terminals.{terminal_view}
 use Rattle.jd_jtrees.specs.CappedTrees.{Capped, CappedList}
 use Rattle.jd_jtrees.specs.CappedBodies.{CappedNames, capped_statements}
-use Rattle.jd_jbody.specs.Views.{stack_view}
+use Rattle.jd_jstates.specs.Views.{stack_view}
 use Rattle.jd_jbody.proofs.expressions.start_expression.Goals as goal
 
 pub returns : goal.returns

@@ -1,6 +1,6 @@
 use Rattle.std.proofs.Common.{sym, ◌∙◌}
 use Rattle.jd_jtokens.specs.Terminals.{terminal_view}
-use Rattle.jd_jbody.specs.Views.{stack_view}
+use Rattle.jd_jstates.specs.Views.{stack_view}
 use Rattle.jd_jbody.proofs.Wanting.{result_expression}
 use Rattle.jd_jbody.proofs.parts.result_wanted.Goals as goal
 

@@ -2,7 +2,7 @@ use Rattle.std.proofs.Common.{option_map, sym, ◌∙◌}
 use Rattle.jd_jtokens.specs.Terminals.{terminal_view}
 use Rattle.jd_jexpr.specs.Views.{value_view}
 use Rattle.jd_jstatements.specs.Views.{head_view, open_view}
-use Rattle.jd_jbody.specs.Views.{stack_view}
+use Rattle.jd_jstates.specs.Views.{stack_view}
 use Rattle.jd_jbody.proofs.Wanting.{update_expression}
 use Rattle.jd_jbody.proofs.parts.update_wanted.Goals as goal
 

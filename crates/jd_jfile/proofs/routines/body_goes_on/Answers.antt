@@ -1,7 +1,7 @@
 use Rattle.std.proofs.Common.{ap, map, option_map, sym}
 use Rattle.jd_syntax.specs.JavaTrees.{parameter_view}
 use Rattle.jd_jstatements.specs.Views.{block_view}
-use Rattle.jd_jbody.specs.Views.{body_view}
+use Rattle.jd_jstates.specs.Views.{body_view}
 use Rattle.jd_jfile.specs.Views.{closed_view, opened_view}
 use Rattle.jd_jfile.proofs.Following.{whole_body}
 use Rattle.jd_jfile.proofs.routines.body_goes_on.Goals as goal

@@ -1,6 +1,6 @@
 use Rattle.std.proofs.Common.{ap}
 use Rattle.jd_jtokens.specs.Terminals.{terminal_view}
-use Rattle.jd_jbody.specs.Views.{body_view}
+use Rattle.jd_jstates.specs.Views.{body_view}
 use Rattle.jd_jfile.specs.Views.{closed_view}
 use Rattle.jd_jfile.proofs.Following.{body_begins}
 use Rattle.jd_jfile.proofs.routines.open_body.Goals as goal

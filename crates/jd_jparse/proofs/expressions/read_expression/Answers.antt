@@ -1,8 +1,8 @@
 use Rattle.std.proofs.Common.{sym, ◌∙◌}
 use Rattle.jd_jgrammar.specs.StatementReader as body
 use Rattle.jd_jexpr.specs.Views.{reading_view}
-use Rattle.jd_jbody.specs.Views as bodies
-use Rattle.jd_jbody.specs.Views.{hole_view, stack_view}
+use Rattle.jd_jstates.specs.Views as bodies
+use Rattle.jd_jstates.specs.Views.{hole_view, stack_view}
 use Rattle.jd_jparse.proofs.InExpressions.{expression_ends, expression_goes, expression_is_refused}
 use Rattle.jd_jparse.proofs.Running.{body_inside, body_turns_to}
 use Rattle.jd_jparse.proofs.expressions.read_expression.Goals as goal

@@ -4,7 +4,7 @@ use Rattle.jd_jgrammar.specs.UnitReader as reader
 use Rattle.jd_jtokens.specs.Placed.{placed_view}
 use Rattle.jd_jtrees.specs.CappedUnits.{capped_units}
 use Rattle.jd_jexpr.specs.Views.{reading_view}
-use Rattle.jd_jbody.specs.Views.{hole_view, stack_view}
+use Rattle.jd_jstates.specs.Views.{hole_view, stack_view}
 use Rattle.jd_jfile.specs.Views.{RoutineClosed}
 use Rattle.jd_jparse.proofs.expressions.read_expression.Given as goal
 

@@ -1,7 +1,7 @@
 use Rattle.std.proofs.Common.{IfOk, map, refl, subst, sym}
 use Rattle.jd_jtokens.specs.Placed.{placed_view}
-use Rattle.jd_jbody.specs.declared.reading.Top.{Top}
-use Rattle.jd_jbody.specs.Views.{body_view, stack_view, state_of}
+use Rattle.jd_jstates.specs.declared.reading.Top.{Top}
+use Rattle.jd_jstates.specs.Views.{body_view, stack_view, state_of}
 use Rattle.jd_jparse.specs.Runs.{BodyTurned}
 use Rattle.jd_jparse.proofs.Running.{body_turns_to}
 use Rattle.jd_jparse.proofs.turns.body_on.Goals as goal

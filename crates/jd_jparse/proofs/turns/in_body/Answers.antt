@@ -1,6 +1,6 @@
 use Rattle.std.proofs.Common.{map, subst}
 use Rattle.jd_jtokens.specs.Placed.{placed_view}
-use Rattle.jd_jbody.specs.Views.{body_view}
+use Rattle.jd_jstates.specs.Views.{body_view}
 use Rattle.jd_jfile.specs.Views.{closed_view, file_view}
 use Rattle.jd_jparse.specs.Runs.{BodyTurned}
 use Rattle.jd_jparse.proofs.Running.{body_ends}

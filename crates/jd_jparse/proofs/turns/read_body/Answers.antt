@@ -1,6 +1,6 @@
 use Rattle.std.proofs.Common.{drop, map, sym, arith, ◌∙◌}
 use Rattle.jd_jtokens.specs.Placed.{placed_view}
-use Rattle.jd_jbody.specs.Views.{body_view}
+use Rattle.jd_jstates.specs.Views.{body_view}
 use Rattle.jd_jparse.specs.Runs.{BodyLeadsTo}
 use Rattle.jd_jparse.proofs.Running.{body_closer, body_inside, body_is_whole, body_rest, body_still, body_within}
 use Rattle.jd_jparse.proofs.turns.read_body.Goals as goal

@@ -2,7 +2,7 @@ use Rattle.std.proofs.Common.{◌≡◌, ◌≤◌, ◌-◌, length, map, drop}
 use Rattle.jd_jgrammar.specs.UnitReader as reader
 use Rattle.jd_jtokens.specs.Placed.{placed_view}
 use Rattle.jd_jtrees.specs.CappedUnits.{capped_units}
-use Rattle.jd_jbody.specs.Views.{body_view}
+use Rattle.jd_jstates.specs.Views.{body_view}
 use Rattle.jd_jfile.specs.Views.{RoutineClosed}
 use Rattle.jd_jparse.proofs.turns.read_body.Given as goal
 

@@ -1,0 +1,4 @@
+pub mod Catching
+pub mod Settled
+pub mod Terminals
+pub mod Views

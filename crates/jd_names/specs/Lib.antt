@@ -1,0 +1,4 @@
+pub mod Identifiers
+pub mod Laws
+pub mod Tables
+pub mod Words
