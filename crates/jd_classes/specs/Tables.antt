@@ -11,7 +11,7 @@ use Rattle.jd_jclasses.specs.Refusals.{AreClasses}
 use Rattle.jd_jheads.specs.Heads.{names_of}
 use Rattle.jd_jnumbers.specs.Numbered.{AreNames, count_of, texts_of}
 use Rattle.jd_jseen.specs.Seen.{AreSeen, cells_of, name_count}
-use Rattle.jd_jinfos.specs.Infos.{class_infos, field_infos, method_infos, own_of_each}
+use Rattle.jd_jinfos.specs.Infos.{PlainClassInfo, PlainFieldInfo, PlainMethodInfo, class_infos, field_infos, method_infos, own_of_each}
 use Rattle.jd_jinfos.specs.Views.{class_info_view, field_info_view, method_info_view, own_view}
 use Rattle.jd_reach.specs.Graphs.{edge, node_count}
 use Rattle.jd_reach.specs.Paths.{ReachesBy}
@@ -59,6 +59,18 @@ pub record AreTables (units : List JavaUnit) (c : Classes) : Type 0 where
   pub fields_ : map field_info_view c.fields.items ≡ field_infos units
   pub methods_ : map method_info_view c.methods.items ≡ method_infos units
   pub classes_ : map class_info_view c.classes.items ≡ class_infos units
+
+-- ---- what a table lists
+
+abbrev pub listed_classes : Classes → List PlainClassInfo
+listed_classes c = map class_info_view c.classes.items
+
+abbrev pub listed_fields : Classes → List PlainFieldInfo
+listed_fields c = map field_info_view c.fields.items
+
+-- methods and constructors
+abbrev pub listed_methods : Classes → List PlainMethodInfo
+listed_methods c = map method_info_view c.methods.items
 
 -- ---- the ids of a table are the numbers below these
 

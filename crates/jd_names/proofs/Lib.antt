@@ -1,8 +1,8 @@
-mod ClassNames
-mod Firsts
+pub mod ClassNames
+pub mod Firsts
 mod Known
-mod Letters
-mod Members
-mod Seeing
-mod Sighting
+pub mod Letters
+pub mod Members
+pub mod Seeing
+pub mod Sighting
 mod Telling

@@ -1,0 +1,9 @@
+mod Ascii
+mod Calling
+mod Leasts
+mod Loops
+mod Members
+mod Opening
+mod Owning
+mod Prefixes
+mod Seen

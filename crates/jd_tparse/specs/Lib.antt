@@ -1,0 +1,4 @@
+pub mod Called
+pub mod Least
+pub mod Names
+pub mod Programs

@@ -1,0 +1,15 @@
+//! The names in the text of terms and code: what they stand for, and what classes, fields and methods are called there, by the
+//! tables of a program's classes.
+#![tactic(auto)]
+
+mod classes;
+mod fields;
+mod meanings;
+mod names;
+mod new;
+mod parts;
+mod routines;
+mod texts;
+mod variables;
+
+pub use names::Names;
