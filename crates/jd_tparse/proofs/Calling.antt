@@ -1,10 +1,10 @@
 -- Classes and constructors by their names.
 use Rattle.std.proofs.Common.{◌≡◌, ℕ, ◌<◌, Bool, true, false, cond, ◌&&◌, nat_eq, List, [], length, map, Option, None, Some, IfSome, option_map, refl, sym, ap, ◌∙◌, arith}
-use Rattle.std.specs.List.{position_from, slice_get}
+use Rattle.std.specs.List.{slice_get}
 use Rattle.std.specs.Str.{bytes_eq}
 use Rattle.std.proofs.lemmas.Bool.{eq-eqb}
 use Rattle.std.proofs.lemmas.List.{length-map}
-use Rattle.std.proofs.lemmas.Option.{none-some, same_Some, slice_get-get_or}
+use Rattle.std.proofs.lemmas.Option.{same_Some, slice_get-get_or}
 use Rattle.jd_base.specs.declared.ids.ClassId.{ClassId}
 use Rattle.jd_syntax.specs.JavaTrees.{JavaUnit}
 use Rattle.jd_syntax.specs.Names.{Name}
@@ -23,7 +23,7 @@ use Rattle.jd_tforms.specs.Shapes.{is_name}
 use Rattle.jd_tforms.proofs.Somes.{bytes_same, guarded, same_bytes}
 use Rattle.jd_names.specs.Tables.{class_name, name_table, program_tables}
 use Rattle.jd_names.specs.Words.{class_called, names_constructor}
-use Rattle.jd_names.proofs.ClassNames.{as_many_names, found_name, listed_names, named_is, one_name}
+use Rattle.jd_names.proofs.ClassNames.{found_name, listed_names, named_is, one_name}
 use Rattle.jd_names.proofs.Firsts.{first_place, first_same, none_first, none_passes}
 use Rattle.jd_names.proofs.Letters.{same_byte, where_name}
 use Rattle.jd_names.proofs.Members.{constructors_named, routine_class}

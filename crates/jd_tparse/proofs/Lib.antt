@@ -3,6 +3,7 @@ mod Calling
 mod Leasts
 mod Loops
 mod Members
+mod Named
 mod Opening
 mod Owning
 mod Prefixes

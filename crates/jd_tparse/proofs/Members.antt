@@ -1,15 +1,14 @@
 -- A class's own members, as the tables of its program list them.
-use Rattle.std.proofs.Common.{◌≡◌, ℕ, ◌+◌, ◌<◌, Bool, ◌&&◌, nat_eq, List, [], length, map, Option, None, Some, option_map, refl, sym, ap, ◌∙◌, subst, arith}
+use Rattle.std.proofs.Common.{◌≡◌, ℕ, ◌<◌, ◌&&◌, nat_eq, List, [], length, map, Option, None, Some, option_map, refl, sym, ap, ◌∙◌, subst, arith}
 use Rattle.std.specs.List.{All, find, position_from, slice_get, slice_index_or}
 use Rattle.std.proofs.lemmas.List.{get_or-map, length-map}
 use Rattle.std.proofs.lemmas.Option.{slice_get-map, slice_get_within}
 use Rattle.jd_base.specs.declared.ids.FieldId.{FieldId}
 use Rattle.jd_base.specs.declared.ids.MethodId.{MethodId}
 use Rattle.jd_syntax.specs.JavaTrees.{JavaUnit}
-use Rattle.jd_jclasses.specs.Classes.{parents}
-use Rattle.jd_jclasses.specs.Members.{Declared, declared_members}
+use Rattle.jd_jclasses.specs.Members.{declared_members}
 use Rattle.jd_jclasses.specs.Methods.{fields, routines}
-use Rattle.jd_jinfos.specs.Infos.{PlainOwnMembers, class_infos, field_info, field_infos, is_constructor_of, is_method_of, is_of, method_info, method_infos, own_of, places_from}
+use Rattle.jd_jinfos.specs.Infos.{PlainOwnMembers, class_infos, field_info, is_constructor_of, is_method_of, is_of, method_info, own_of, places_from}
 use Rattle.jd_jinfos.specs.Views.{class_info_view, field_info_view, field_number, method_info_view, method_number}
 use Rattle.jd_jinfos.specs.declared.info.ClassInfo.{ClassInfo}
 use Rattle.jd_classes.specs.Tables.{AreTables, field_count_of, method_count_of}

@@ -1,5 +1,5 @@
 -- Classes that are some program's tables: what holds for each program that has these tables.
-use Rattle.std.proofs.Common.{◌≡◌, ℕ, ◌<◌, List, Option, Some, length, map, get_or, option_map, refl, sym, ap, ◌∙◌}
+use Rattle.std.proofs.Common.{◌≡◌, ℕ, ◌<◌, List, Some, length, map, get_or, option_map, sym, ap, ◌∙◌}
 use Rattle.std.proofs.Math.Logic.{∥∥₁_elim}
 use Rattle.std.proofs.lemmas.List.{length-map}
 use Rattle.std.proofs.lemmas.Option.{get_or_from_slice_get, slice_get-map}
@@ -9,7 +9,7 @@ use Rattle.jd_syntax.specs.JavaTrees.{JavaUnit}
 use Rattle.jd_jclasses.specs.Classes.{parents}
 use Rattle.jd_jinfos.specs.Infos.{class_infos}
 use Rattle.jd_jinfos.specs.Views.{class_info_view}
-use Rattle.jd_classes.specs.Tables.{AreTables, class_count_of, listed_classes, listed_fields, listed_methods}
+use Rattle.jd_classes.specs.Tables.{AreTables, class_count_of, listed_fields, listed_methods}
 use Rattle.jd_classes.specs.declared.classes.Classes.{Classes}
 use Rattle.jd_names.specs.Tables.{ClassTables, program_tables}
 use Rattle.jd_names.proofs.Seeing.{as_many_listed}

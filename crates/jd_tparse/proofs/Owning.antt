@@ -1,31 +1,24 @@
 -- What the classes declare themselves, by the words that name it.
-use Rattle.std.proofs.Common.{◌≡◌, ◌⊎◌, ℕ, zero, suc, ◌+◌, ◌<◌, ◌≤◌, Bool, true, false, not, cond, ◌&&◌, ◌||◌, nat_eq, nat_lt, List, [], ◌∷◌, ◌++◌, length, map, get_or, Option, None, Some, option_map, refl, sym, ap, ap₂, ◌∙◌, subst, inl, inr, true≢false, arith}
-use Rattle.std.specs.List.{All, filter, find, position_from, range_with_len, slice_get}
+use Rattle.std.proofs.Common.{◌≡◌, ℕ, zero, suc, ◌+◌, ◌<◌, Bool, true, false, not, cond, ◌&&◌, ◌||◌, nat_eq, nat_lt, List, [], ◌∷◌, length, Option, None, Some, option_map, refl, sym, ap, ◌∙◌, inl, inr, true≢false, arith}
+use Rattle.std.specs.List.{All, find, range_with_len, slice_get}
 use Rattle.std.specs.Str.{bytes_eq}
-use Rattle.std.proofs.lemmas.Bool.{and_parts, cases_Bool, cases_eq, eq-eqb, ne_eqb}
+use Rattle.std.proofs.lemmas.Bool.{cases_Bool, eq-eqb}
 use Rattle.std.proofs.lemmas.Bool.Decides.{nat_tests}
-use Rattle.std.proofs.lemmas.List.{length-map}
 use Rattle.std.proofs.lemmas.List.Elements.{All-cons, All-nil}
-use Rattle.std.proofs.lemmas.Option.{get_or_from_slice_get, none-some, same_Some, slice_get-get_or, slice_get-map, slice_get_cases, slice_get_within}
-use Rattle.std.proofs.lemmas.Slice.Eq.{bytes_eq-Decides}
+use Rattle.std.proofs.lemmas.Option.{same_Some, slice_get-map}
 use Rattle.jd_syntax.specs.JavaTrees.{JavaUnit}
-use Rattle.jd_syntax.specs.Names.{Name}
-use Rattle.jd_jclasses.specs.Classes.{class_names, declared_classes, parents, prelude_count}
-use Rattle.jd_jclasses.specs.Members.{Declared, Kind, FieldOf, ConstantOf, RoutineOf, builds, declared_members, is_constructor as constructs, is_field as is_field_kind, is_method as is_method_kind, is_routine, is_static as is_static_kind}
+use Rattle.jd_jclasses.specs.Classes.{declared_classes, parents, prelude_count}
+use Rattle.jd_jclasses.specs.Members.{Declared, Kind, FieldOf, ConstantOf, RoutineOf, builds, declared_members, is_constructor as constructs, is_method as is_method_kind, is_routine, is_static as is_static_kind}
 use Rattle.jd_jclasses.specs.Methods.{fields, routines}
-use Rattle.jd_jclasses.specs.Refusals.{AreClasses}
-use Rattle.jd_jinfos.specs.Infos.{PlainClassInfo, PlainOwnMembers, class_infos, field_info, field_infos, is_constructor_of, is_method_of, is_of, method_info, method_infos, own_of, places_from}
+use Rattle.jd_jinfos.specs.Infos.{PlainClassInfo, PlainOwnMembers, class_infos, is_method_of, is_of, own_of, places_from}
 use Rattle.jd_jinfos.proofs.Together.{own_in_infos}
-use Rattle.jd_jseen.proofs.Nodes.{length_parents, members_are_of_classes}
+use Rattle.jd_jseen.proofs.Nodes.{length_parents}
 use Rattle.jd_jseen.proofs.Routines.{kept}
-use Rattle.jd_tgrammar.specs.NameTables.{FieldName, NameTable, RoutineName, member_word}
-use Rattle.jd_tgrammar.specs.Spelling.{class_word, no_field, no_routine, routine}
-use Rattle.jd_tforms.specs.Naming.{number_where, is_constructor, is_field, is_static}
-use Rattle.jd_tforms.proofs.Somes.{bytes_same, same_bytes}
+use Rattle.jd_tgrammar.specs.NameTables.{member_word}
+use Rattle.jd_tforms.specs.Naming.{number_where}
+use Rattle.jd_tforms.proofs.Somes.{same_bytes}
 use Rattle.jd_tparse.specs.Least.{least}
-use Rattle.jd_names.specs.Tables.{class_name, field_name, name_table, program_tables, routine_name}
-use Rattle.jd_names.specs.Words.{class_called, names_constructor, names_field, names_static}
-use Rattle.jd_names.proofs.ClassNames.{as_many_names, found_name, listed_names, one_name}
+use Rattle.jd_names.specs.Words.{class_called, names_field, names_static}
 use Rattle.jd_names.proofs.Firsts.{first_same, none_first}
 use Rattle.jd_tparse.proofs.Leasts.{first_of_two}
 

@@ -1,5 +1,5 @@
 -- The method that a class sees by a name.
-use Rattle.std.proofs.Common.{◌≡◌, ℕ, ◌<◌, true, cond, List, length, Option, None, Some, IfSome, option_map, refl, sym, ap, ◌∙◌, subst, arith, IsUtf8, []}
+use Rattle.std.proofs.Common.{◌≡◌, ℕ, ◌<◌, true, cond, List, length, Option, None, Some, option_map, sym, ap, ◌∙◌, subst, arith, IsUtf8, []}
 use Rattle.std.specs.List.{list_all, slice_get}
 use Rattle.std.specs.Option.{option_and_then}
 use Rattle.std.proofs.lemmas.Option.{same_Some, slice_get-map}
@@ -9,7 +9,6 @@ use Rattle.jd_syntax.specs.JavaTrees.{JavaUnit}
 use Rattle.jd_syntax.specs.Names.{Name}
 use Rattle.jd_jclasses.specs.Classes.{parents}
 use Rattle.jd_jclasses.specs.Laws.{OneMethod}
-use Rattle.jd_jclasses.specs.Members.{is_static as is_static_kind}
 use Rattle.jd_jclasses.specs.Methods.{IsSeen, SeesNone, routines}
 use Rattle.jd_jinfos.specs.Infos.{PlainMethodInfo, method_info, method_infos}
 use Rattle.jd_jinfos.specs.Views.{method_info_view}

@@ -35,13 +35,7 @@ pub(crate) fn least(one: Option<u32>, other: Option<u32>) -> Option<u32>
         None => other,
         Some(a) => match other {
             None => Some(a),
-            Some(b) => {
-                if b < a {
-                    Some(b)
-                } else {
-                    Some(a)
-                }
-            }
+            Some(b) => { if b < a { Some(b) } else { Some(a) } }
         },
     }
 }

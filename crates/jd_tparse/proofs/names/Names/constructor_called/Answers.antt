@@ -1,7 +1,5 @@
-use Rattle.std.proofs.Common.{ℕ, None, sym, ap, ◌∙◌}
+use Rattle.std.proofs.Common.{sym, ap, ◌∙◌}
 use Rattle.std.specs.Coded.{coded_option, coded_ℕ}
-use Rattle.std.specs.Option.{option_map}
-use Rattle.jd_jinfos.specs.Views.{class_number}
 use Rattle.jd_tforms.specs.Naming as plain
 use Rattle.jd_names.specs.Tables.{name_table}
 use Rattle.jd_tparse.specs.Names.{variables}
