@@ -8,3 +8,5 @@ mod Opening
 mod Owning
 mod Prefixes
 mod Seen
+mod SortCodes
+mod SortLists

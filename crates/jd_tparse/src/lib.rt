@@ -9,6 +9,7 @@ mod names;
 mod new;
 mod parts;
 mod routines;
+mod sorts;
 mod texts;
 mod variables;
 
