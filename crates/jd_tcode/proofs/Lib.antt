@@ -1,0 +1,4 @@
+pub mod Ends
+pub mod Growing
+pub mod Headed
+pub mod Placed
