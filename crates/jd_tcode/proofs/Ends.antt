@@ -1,11 +1,12 @@
 -- How many parts stand behind a head.
-use Rattle.std.proofs.Common.{◌≡◌, ◌≢◌, ℕ, ◌<◌, ◌≤◌, List, [], ◌∷◌, length, map, Option, Some, None, refl, arith}
+use Rattle.std.proofs.Common.{◌≡◌, ◌≢◌, ℕ, ◌<◌, ◌≤◌, List, [], ◌∷◌, length, map, Option, Some, None, Result, refl, arith}
 use Rattle.std.specs.Option.{option_or}
 use Rattle.jd_syntax.specs.declared.sx.Sx.{Sx}
 use Rattle.jd_syntax.specs.Sxs.{bracketed_list, sx_view}
 use Rattle.jd_tgrammar.specs.NameTables.{NameTable}
 use Rattle.jd_tforms.specs.Reading.{Read, with_none, with_one, with_two, behind_one, behind_two, reads}
 use Rattle.jd_tread.specs.Behind.{rest_of}
+use Rattle.jd_tcode.specs.Pairing.{Gives}
 
 -- ---- fewer than a call has
 
@@ -34,8 +35,6 @@ something_behind names t [] n = absurd (omega (arith, n))
 something_behind names t (h ∷ []) n = absurd (omega (arith, n))
 something_behind names t (h ∷ a ∷ xs) n = refl
 
-pub ruleset stopping = (nothing_behind, something_behind)
-
 -- ---- nothing or one
 
 pub nothing_returned : {T : Type 0} (names : NameTable) (f : Read → Option T) (t : Option T) (xs : List Sx) → length xs < 2 →
@@ -51,7 +50,10 @@ no_return names f t (h ∷ []) n m = absurd (omega (arith, n))
 no_return names f t (h ∷ a ∷ []) n m = absurd (m refl)
 no_return names f t (h ∷ a ∷ b ∷ xs) n m = refl
 
-pub ruleset returning = (nothing_returned, no_return)
+-- a value
+pub or_none : {A T E : Type 0} (view : A → T) (made : Result (Option A) E) (p : Option T) → Gives view made p → Gives view made (option_or p None)
+or_none view made None given = given
+or_none view made (Some t) given = given
 
 -- ---- two parts, none of which is a head
 
@@ -62,3 +64,6 @@ no_two_parts names f (a ∷ b ∷ []) n = absurd (n refl)
 no_two_parts names f (a ∷ b ∷ c ∷ xs) n = refl
 
 pub ruleset not_two = no_two_parts
+
+-- what ends is nothing else
+pub ruleset ends = (no_return, something_behind)

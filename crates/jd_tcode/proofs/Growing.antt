@@ -1,7 +1,10 @@
 -- Lists that are read part by part.
 use Rattle.std.proofs.Common.{◌≡◌, ℕ, ◌+◌, ◌<◌, List, [], ◌∷◌, ◌++◌, length, map, drop, get_or, Option, Some, None, option_map, refl, sym, ap, ◌∙◌, arith}
-use Rattle.std.proofs.lemmas.List.{drop_more}
+use Rattle.std.proofs.lemmas.List.{drop_more, map-append}
+use Rattle.jd_syntax.specs.declared.code.CodeExpr.{CodeExpr}
+use Rattle.jd_syntax.specs.declared.code.CodeStmt.{CodeStmt}
 use Rattle.jd_syntax.specs.declared.sx.Sx.{Sx}
+use Rattle.jd_syntax.specs.CodeViews.{expr_view, stmt_view}
 use Rattle.jd_syntax.specs.Codes.{Expr, Exprs, NoExprs, ExprThen, Stmt, PlainCode, Done, Then, exprs_of, stmts_of}
 use Rattle.jd_syntax.specs.Sxs.{bracketed_list, sx_view}
 use Rattle.jd_tgrammar.specs.NameTables.{NameTable}
@@ -67,6 +70,17 @@ pub operands_end : (names : NameTable) (xs : List Sx) (i : ℕ) (ds : List Expr)
 operands_end names xs i ds e =
     ap (λ (rs : List Read). option_map (after_exprs ds) (operands names rs)) (rest_none names xs i e) ∙ ap Some (exprs_end ds)
 
+-- one more operand
+pub operands_more : (names : NameTable) (xs : List Sx) (i : ℕ) (x : Sx) (done all : List CodeExpr) (e : CodeExpr) (whole : Option Exprs) → whole ≡ operands_from names xs i (map expr_view done) →
+    i < length xs → x ≡ get_or xs i x → Some (expr_view e) ≡ (read names (sx_view x)).expr → all ≡ done ++ e ∷ [] → whole ≡ operands_from names xs (i + 1) (map expr_view all)
+operands_more names xs i x done all e whole so_far lt is some more =
+    so_far ∙ (operands_step names xs i (map expr_view done) x (expr_view e) lt is some
+    ∙ ap (operands_from names xs (i + 1)) (sym (ap (map expr_view) more ∙ map-append expr_view done (e ∷ []))))
+
+-- no more operands
+pub operands_done : (names : NameTable) (xs : List Sx) (i : ℕ) (ds : List Expr) (whole : Option Exprs) → whole ≡ operands_from names xs i ds → i ≡ length xs → Some (exprs_of ds) ≡ whole
+operands_done names xs i ds whole so_far e = sym (so_far ∙ operands_end names xs i ds e)
+
 -- ---- statements
 
 abbrev pub after_stmts : List Stmt → PlainCode → PlainCode
@@ -110,3 +124,14 @@ statements_step names xs i ds x s lt is some =
 pub statements_end : (names : NameTable) (xs : List Sx) (i : ℕ) (ds : List Stmt) → i ≡ length xs → statements_from names xs i ds ≡ Some (stmts_of ds)
 statements_end names xs i ds e =
     ap (λ (rs : List Read). option_map (after_stmts ds) (statements names rs)) (rest_none names xs i e) ∙ ap Some (stmts_end ds)
+
+-- one more statement
+pub statements_more : (names : NameTable) (xs : List Sx) (i : ℕ) (x : Sx) (done all : List CodeStmt) (s : CodeStmt) (whole : Option PlainCode) → whole ≡ statements_from names xs i (map stmt_view done) →
+    i < length xs → x ≡ get_or xs i x → Some (stmt_view s) ≡ (read names (sx_view x)).stmt → all ≡ done ++ s ∷ [] → whole ≡ statements_from names xs (i + 1) (map stmt_view all)
+statements_more names xs i x done all s whole so_far lt is some more =
+    so_far ∙ (statements_step names xs i (map stmt_view done) x (stmt_view s) lt is some
+    ∙ ap (statements_from names xs (i + 1)) (sym (ap (map stmt_view) more ∙ map-append stmt_view done (s ∷ []))))
+
+-- no more statements
+pub statements_done : (names : NameTable) (xs : List Sx) (i : ℕ) (ds : List Stmt) (whole : Option PlainCode) → whole ≡ statements_from names xs i ds → i ≡ length xs → Some (stmts_of ds) ≡ whole
+statements_done names xs i ds whole so_far e = sym (so_far ∙ statements_end names xs i ds e)

@@ -182,3 +182,37 @@ pub(crate) fn make_alloc(variable: Part<VarId>, class: Option<ClassId>, length: 
         None => make_array(variable, length),
     }
 }
+
+// The end of a block.
+pub(crate) fn make_break(label: Option<u32>) -> Part<CodeStmt>
+    ensures { (p : Option ℕ) → label ≡ p → Gives stmt_view result (option_map trees.Break p) }
+{
+    match label {
+        None => Ok(None),
+        Some(label) => Ok(Some(CodeStmt::Break(label))),
+    }
+}
+
+// An exception of a class that is made and thrown.
+pub(crate) fn make_raise(class: Part<ClassId>) -> Part<CodeStmt>
+    ensures { (p : Option ℕ) → Gives (λ c. c.0) class p → Gives stmt_view result (option_map trees.Raise p) }
+{
+    match class? {
+        None => Ok(None),
+        Some(class) => Ok(Some(CodeStmt::Raise(class))),
+    }
+}
+
+// The end of a method that has no value.
+pub(crate) fn make_return_void() -> CodeStmt
+    ensures { stmt_view result ≡ trees.ReturnVoid }
+{
+    CodeStmt::ReturnVoid
+}
+
+// The end of a run.
+pub(crate) fn make_stop() -> CodeStmt
+    ensures { stmt_view result ≡ trees.Stop }
+{
+    CodeStmt::Stop
+}

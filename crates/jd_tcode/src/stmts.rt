@@ -4,15 +4,14 @@ ghost use Rattle.std.specs.Prelude.{◌≡◌, IfOk, Some, map, option_map};
 ghost use Rattle.jd_syntax.specs.CodeViews.{code_view, expr_view, stmt_view};
 ghost use Rattle.jd_syntax.specs.Codes.{stmts_of};
 ghost use Rattle.jd_syntax.specs.Sxs.{bracketed_list, sx_view};
-ghost use Rattle.jd_tgrammar.specs.NameTables.{NameTable};
 ghost use Rattle.jd_tforms.specs.Reading as plain;
 ghost use Rattle.jd_tread.specs.Behind.{rest_of};
 
 use crate::exprs::read_expr;
 use crate::made_stmts::{
-    make_alloc, make_block, make_catch, make_evaluate, make_finally, make_frame, make_if,
-    make_new_array, make_put, make_put_element, make_return, make_set, make_throw,
-    make_throw_unchecked, make_while,
+    make_alloc, make_block, make_break, make_catch, make_evaluate, make_finally, make_frame, make_if,
+    make_new_array, make_put, make_put_element, make_raise, make_return, make_return_void, make_set,
+    make_stop, make_throw, make_throw_unchecked, make_while,
 };
 use crate::words::{
     class_in, field_in, first_word, label_in, loop_in, result_in, variable_in, word_in,
@@ -22,48 +21,6 @@ use jd_syntax::{Code, CodeExpr, CodeStmt, Sx};
 use jd_tforms::StmtHead;
 use jd_twords::{NameMeanings, is_word, stmt_head};
 use std::alloc::Global;
-
-// The end of a block.
-#[tactic(auto, using(jd_tread::proofs::Counts::counts))]
-fn read_break(parts: &[Sx]) -> Option<CodeStmt>
-    ensures { (names : NameTable) → option_map stmt_view result ≡ plain.stmt_of names (Some StmtHead.Break) (rest_of (plain.reads names (bracketed_list (map sx_view parts.now)))) }
-{
-    if parts.len() != 2 {
-        return None;
-    }
-    let [_, label] = parts else { return None };
-    match label_in(label) {
-        None => None,
-        Some(label) => Some(CodeStmt::Break(label)),
-    }
-}
-
-// An exception of a class that is made and thrown.
-#[tactic(auto, using(jd_tread::proofs::Counts::counts))]
-fn read_raise<N: NameMeanings>(names: &N, parts: &[Sx]) -> Option<CodeStmt>
-    ensures { option_map stmt_view result ≡ plain.stmt_of (N.table names.now) (Some StmtHead.Raise) (rest_of (plain.reads (N.table names.now) (bracketed_list (map sx_view parts.now)))) }
-{
-    if parts.len() != 2 {
-        return None;
-    }
-    let [_, class] = parts else { return None };
-    match class_in(names, class) {
-        None => None,
-        Some(class) => Some(CodeStmt::Raise(class)),
-    }
-}
-
-// The end of a run.
-#[tactic(auto, using(crate::proofs::Ends::stopping))]
-fn read_stop(parts: &[Sx]) -> Option<CodeStmt>
-    ensures { (names : NameTable) → option_map stmt_view result ≡ plain.stmt_of names (Some StmtHead.Stop) (rest_of (plain.reads names (bracketed_list (map sx_view parts.now)))) }
-{
-    if parts.len() < 2 {
-        Some(CodeStmt::Stop)
-    } else {
-        None
-    }
-}
 
 // The length in `(arr X)`.
 #[cycle(read_code)]
@@ -108,7 +65,7 @@ fn read_array<N: NameMeanings>(
 
 // What stands behind the head of a statement.
 #[cycle(read_code)]
-#[tactic(auto, using(jd_tread::proofs::Counts::counts, crate::proofs::Ends::returning))]
+#[tactic(auto, using(jd_tread::proofs::Counts::counts, crate::proofs::Ends::ends))]
 fn stmt_behind<N: NameMeanings>(
     alloc: Global,
     names: &N,
@@ -167,7 +124,13 @@ fn stmt_behind<N: NameMeanings>(
             let [_, label, body] = parts else { return Ok(None) };
             make_block(label_in(label), read_code(alloc, names, body))
         }
-        StmtHead::Break => Ok(read_break(parts)),
+        StmtHead::Break => {
+            if parts.len() != 2 {
+                return Ok(None);
+            }
+            let [_, label] = parts else { return Ok(None) };
+            make_break(label_in(label))
+        }
         StmtHead::Catch => {
             if parts.len() != 4 {
                 return Ok(None);
@@ -198,7 +161,7 @@ fn stmt_behind<N: NameMeanings>(
         }
         StmtHead::Return => {
             if parts.len() < 2 {
-                return Ok(Some(CodeStmt::ReturnVoid));
+                return Ok(Some(make_return_void()));
             }
             if parts.len() != 2 {
                 return Ok(None);
@@ -213,7 +176,13 @@ fn stmt_behind<N: NameMeanings>(
             let [_, variable, body] = parts else { return Ok(None) };
             make_frame(result_in(alloc, names, variable), read_code(alloc, names, body))
         }
-        StmtHead::Raise => Ok(read_raise(names, parts)),
+        StmtHead::Raise => {
+            if parts.len() != 2 {
+                return Ok(None);
+            }
+            let [_, class] = parts else { return Ok(None) };
+            make_raise(Ok(class_in(names, class)))
+        }
         StmtHead::Alloc => {
             if parts.len() != 3 {
                 return Ok(None);
@@ -228,7 +197,13 @@ fn stmt_behind<N: NameMeanings>(
             let [_, variable, a] = parts else { return Ok(None) };
             make_new_array(variable_in(alloc, names, variable), read_expr(alloc, names, a))
         }
-        StmtHead::Stop => Ok(read_stop(parts)),
+        StmtHead::Stop => {
+            if parts.len() < 2 {
+                Ok(Some(make_stop()))
+            } else {
+                Ok(None)
+            }
+        }
     }
 }
 
