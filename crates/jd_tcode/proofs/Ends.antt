@@ -1,5 +1,5 @@
 -- How many parts stand behind a head.
-use Rattle.std.proofs.Common.{◌≡◌, ◌≢◌, ℕ, ◌<◌, ◌≤◌, List, [], ◌∷◌, length, map, Option, Some, None, Result, refl, arith}
+use Rattle.std.proofs.Common.{◌≡◌, ◌≢◌, ◌<◌, ◌≤◌, List, [], ◌∷◌, length, map, Option, Some, None, Result, refl, arith}
 use Rattle.std.specs.Option.{option_or}
 use Rattle.jd_syntax.specs.declared.sx.Sx.{Sx}
 use Rattle.jd_syntax.specs.Sxs.{bracketed_list, sx_view}

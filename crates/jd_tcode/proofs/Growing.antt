@@ -1,5 +1,5 @@
 -- Lists that are read part by part.
-use Rattle.std.proofs.Common.{◌≡◌, ℕ, ◌+◌, ◌<◌, List, [], ◌∷◌, ◌++◌, length, map, drop, get_or, Option, Some, None, option_map, refl, sym, ap, ◌∙◌, arith}
+use Rattle.std.proofs.Common.{◌≡◌, ℕ, ◌+◌, ◌<◌, List, [], ◌∷◌, ◌++◌, length, map, drop, get_or, Option, Some, None, option_map, refl, sym, ap, ◌∙◌}
 use Rattle.std.proofs.lemmas.List.{drop_more, map-append}
 use Rattle.jd_syntax.specs.declared.code.CodeExpr.{CodeExpr}
 use Rattle.jd_syntax.specs.declared.code.CodeStmt.{CodeStmt}

@@ -1,5 +1,5 @@
 -- What was made of the parts behind a head is what their list is there.
-use Rattle.std.proofs.Common.{◌≡◌, ◌-◌, ◌<◌, ◌≤◌, ℕ, true, List, [], ◌∷◌, length, get_or, map, take, drop, Option, Some, None, Result, cond, codes, refl, sym, ap, ◌∙◌, subst, arith}
+use Rattle.std.proofs.Common.{◌≡◌, ◌≤◌, ℕ, true, List, [], ◌∷◌, length, get_or, map, drop, Option, Some, None, Result, cond, codes, sym, subst, arith}
 use Rattle.std.specs.Option.{option_and_then}
 use Rattle.std.specs.Str.{bytes_eq}
 use Rattle.jd_syntax.specs.declared.sx.Sx.{Sx}

@@ -62,21 +62,34 @@ fn expr_behind<N: NameMeanings>(
                 return Ok(None);
             }
             let [_, a, b] = parts else { return Ok(None) };
-            make_binary(alloc, operation, read_expr(alloc, names, a), read_expr(alloc, names, b))
+            make_binary(
+                alloc,
+                operation,
+                read_expr(alloc, names, a),
+                read_expr(alloc, names, b),
+            )
         }
         ExprHead::AndAlso => {
             if parts.len() != 3 {
                 return Ok(None);
             }
             let [_, a, b] = parts else { return Ok(None) };
-            make_and(alloc, read_expr(alloc, names, a), read_expr(alloc, names, b))
+            make_and(
+                alloc,
+                read_expr(alloc, names, a),
+                read_expr(alloc, names, b),
+            )
         }
         ExprHead::OrElse => {
             if parts.len() != 3 {
                 return Ok(None);
             }
             let [_, a, b] = parts else { return Ok(None) };
-            make_or(alloc, read_expr(alloc, names, a), read_expr(alloc, names, b))
+            make_or(
+                alloc,
+                read_expr(alloc, names, a),
+                read_expr(alloc, names, b),
+            )
         }
         ExprHead::Conditional => {
             if parts.len() != 4 {
@@ -97,14 +110,22 @@ fn expr_behind<N: NameMeanings>(
             let [_, object, field] = parts else {
                 return Ok(None)
             };
-            make_field(alloc, read_expr(alloc, names, object), Ok(field_in(names, field)))
+            make_field(
+                alloc,
+                read_expr(alloc, names, object),
+                Ok(field_in(names, field)),
+            )
         }
         ExprHead::ReadElement => {
             if parts.len() != 3 {
                 return Ok(None);
             }
             let [_, a, b] = parts else { return Ok(None) };
-            make_element(alloc, read_expr(alloc, names, a), read_expr(alloc, names, b))
+            make_element(
+                alloc,
+                read_expr(alloc, names, a),
+                read_expr(alloc, names, b),
+            )
         }
         ExprHead::LengthOf => {
             if parts.len() != 2 {
@@ -148,7 +169,10 @@ fn expr_behind<N: NameMeanings>(
             let [_, method, operands @ ..] = parts else {
                 return Ok(None)
             };
-            make_static(Ok(static_in(names, method)), read_operands(alloc, names, operands))
+            make_static(
+                Ok(static_in(names, method)),
+                read_operands(alloc, names, operands),
+            )
         }
         ExprHead::ConstructorCall => {
             if parts.len() < 3 {
@@ -169,7 +193,11 @@ fn expr_behind<N: NameMeanings>(
                 return Ok(None);
             }
             let [_, code, a] = parts else { return Ok(None) };
-            make_do(alloc, read_code(alloc, names, code), read_expr(alloc, names, a))
+            make_do(
+                alloc,
+                read_code(alloc, names, code),
+                read_expr(alloc, names, a),
+            )
         }
     }
 }

@@ -39,7 +39,12 @@ pub(crate) fn make_unary(alloc: Global, operation: UnaryOp, a: Part<CodeExpr>) -
 }
 
 // An operation on two values.
-pub(crate) fn make_binary(alloc: Global, operation: BinaryOp, a: Part<CodeExpr>, b: Part<CodeExpr>) -> Part<CodeExpr>
+pub(crate) fn make_binary(
+    alloc: Global,
+    operation: BinaryOp,
+    a: Part<CodeExpr>,
+    b: Part<CodeExpr>,
+) -> Part<CodeExpr>
     ensures { (p : Option Expr) (q : Option Expr) → Gives expr_view a p → Gives expr_view b q → Gives expr_view result (plain.both (trees.Binary operation) p q) }
 {
     match both_there(boxed(alloc, a), boxed(alloc, b))? {
@@ -69,7 +74,12 @@ pub(crate) fn make_or(alloc: Global, a: Part<CodeExpr>, b: Part<CodeExpr>) -> Pa
 }
 
 // One of two values, by a third.
-pub(crate) fn make_conditional(alloc: Global, a: Part<CodeExpr>, b: Part<CodeExpr>, c: Part<CodeExpr>) -> Part<CodeExpr>
+pub(crate) fn make_conditional(
+    alloc: Global,
+    a: Part<CodeExpr>,
+    b: Part<CodeExpr>,
+    c: Part<CodeExpr>,
+) -> Part<CodeExpr>
     ensures { (p : Option Expr) (q : Option Expr) (r : Option Expr) → Gives expr_view a p → Gives expr_view b q → Gives expr_view c r → Gives expr_view result (plain.three trees.Conditional p q r) }
 {
     match three_there(boxed(alloc, a), boxed(alloc, b), boxed(alloc, c))? {
@@ -79,7 +89,11 @@ pub(crate) fn make_conditional(alloc: Global, a: Part<CodeExpr>, b: Part<CodeExp
 }
 
 // A field of an object.
-pub(crate) fn make_field(alloc: Global, object: Part<CodeExpr>, field: Part<FieldId>) -> Part<CodeExpr>
+pub(crate) fn make_field(
+    alloc: Global,
+    object: Part<CodeExpr>,
+    field: Part<FieldId>,
+) -> Part<CodeExpr>
     ensures { (p : Option Expr) (q : Option ℕ) → Gives expr_view object p → Gives (λ f. f.0) field q → Gives expr_view result (plain.both trees.ReadField p q) }
 {
     match both_there(boxed(alloc, object), field)? {
@@ -130,12 +144,19 @@ pub(crate) fn make_instance(alloc: Global, kind: Part<Kind>, a: Part<CodeExpr>) 
 
 // A call of a method of an object.
 #[tactic(auto, using(jd_syntax::proofs::CodeLemmas::calls))]
-pub(crate) fn make_call(alloc: Global, method: Part<(ClassId, MethodId)>, receiver: Part<CodeExpr>, operands: Part<Vec<CodeExpr>>) -> Part<CodeExpr>
+pub(crate) fn make_call(
+    alloc: Global,
+    method: Part<(ClassId, MethodId)>,
+    receiver: Part<CodeExpr>,
+    operands: Part<Vec<CodeExpr>>,
+) -> Part<CodeExpr>
     ensures { (p : Option (ℕ × ℕ)) (q : Option Expr) (r : Option Exprs) → Gives seen_view method p → Gives expr_view receiver q → Gives (λ v. exprs_of (map expr_view v.items)) operands r → Gives expr_view result (plain.three seen_call p q r) }
 {
     match three_there(method, boxed(alloc, receiver), operands)? {
         None => Ok(None),
-        Some((method, receiver, operands)) => Ok(Some(CodeExpr::VirtualCall(method.0, method.1, receiver, operands))),
+        Some((method, receiver, operands)) => Ok(Some(CodeExpr::VirtualCall(
+            method.0, method.1, receiver, operands,
+        ))),
     }
 }
 
@@ -152,12 +173,21 @@ pub(crate) fn make_static(method: Part<MethodId>, operands: Part<Vec<CodeExpr>>)
 
 // A call of a constructor.
 #[tactic(auto, using(jd_syntax::proofs::CodeLemmas::calls))]
-pub(crate) fn make_constructor(alloc: Global, constructor: Part<MethodId>, object: Part<CodeExpr>, operands: Part<Vec<CodeExpr>>) -> Part<CodeExpr>
+pub(crate) fn make_constructor(
+    alloc: Global,
+    constructor: Part<MethodId>,
+    object: Part<CodeExpr>,
+    operands: Part<Vec<CodeExpr>>,
+) -> Part<CodeExpr>
     ensures { (p : Option ℕ) (q : Option Expr) (r : Option Exprs) → Gives (λ m. m.0) constructor p → Gives expr_view object q → Gives (λ v. exprs_of (map expr_view v.items)) operands r → Gives expr_view result (plain.three trees.ConstructorCall p q r) }
 {
     match three_there(constructor, boxed(alloc, object), operands)? {
         None => Ok(None),
-        Some((constructor, object, operands)) => Ok(Some(CodeExpr::ConstructorCall(constructor, object, operands))),
+        Some((constructor, object, operands)) => Ok(Some(CodeExpr::ConstructorCall(
+            constructor,
+            object,
+            operands,
+        ))),
     }
 }
 

@@ -24,7 +24,11 @@ pub(crate) fn make_set(variable: Part<VarId>, a: Part<CodeExpr>) -> Part<CodeStm
 }
 
 // An assignment to a field.
-pub(crate) fn make_put(object: Part<CodeExpr>, field: Part<FieldId>, a: Part<CodeExpr>) -> Part<CodeStmt>
+pub(crate) fn make_put(
+    object: Part<CodeExpr>,
+    field: Part<FieldId>,
+    a: Part<CodeExpr>,
+) -> Part<CodeStmt>
     ensures { (p : Option Expr) (q : Option ℕ) (r : Option Expr) → Gives expr_view object p → Gives (λ f. f.0) field q → Gives expr_view a r → Gives stmt_view result (plain.three trees.WriteField p q r) }
 {
     match three_there(object, field, a)? {
@@ -34,7 +38,11 @@ pub(crate) fn make_put(object: Part<CodeExpr>, field: Part<FieldId>, a: Part<Cod
 }
 
 // An assignment to an element.
-pub(crate) fn make_put_element(a: Part<CodeExpr>, b: Part<CodeExpr>, c: Part<CodeExpr>) -> Part<CodeStmt>
+pub(crate) fn make_put_element(
+    a: Part<CodeExpr>,
+    b: Part<CodeExpr>,
+    c: Part<CodeExpr>,
+) -> Part<CodeStmt>
     ensures { (p : Option Expr) (q : Option Expr) (r : Option Expr) → Gives expr_view a p → Gives expr_view b q → Gives expr_view c r → Gives stmt_view result (plain.three trees.WriteElement p q r) }
 {
     match three_there(a, b, c)? {
@@ -64,7 +72,11 @@ pub(crate) fn make_if(test: Part<CodeExpr>, then: Part<Code>, other: Part<Code>)
 }
 
 // A loop.
-pub(crate) fn make_while(number: Option<u32>, test: Part<CodeExpr>, body: Part<Code>) -> Part<CodeStmt>
+pub(crate) fn make_while(
+    number: Option<u32>,
+    test: Part<CodeExpr>,
+    body: Part<Code>,
+) -> Part<CodeStmt>
     ensures { (p : Option ℕ) (q : Option Expr) (r : Option PlainCode) → number ≡ p → Gives expr_view test q → Gives code_view body r → Gives stmt_view result (plain.three trees.While p q r) }
 {
     match three_there(Ok(number), test, body)? {
@@ -84,7 +96,11 @@ pub(crate) fn make_block(label: Option<u32>, body: Part<Code>) -> Part<CodeStmt>
 }
 
 // A block that catches what is thrown.
-pub(crate) fn make_catch(body: Part<Code>, variable: Part<VarId>, handler: Part<Code>) -> Part<CodeStmt>
+pub(crate) fn make_catch(
+    body: Part<Code>,
+    variable: Part<VarId>,
+    handler: Part<Code>,
+) -> Part<CodeStmt>
     ensures { (p : Option PlainCode) (q : Option Name) (r : Option PlainCode) → Gives code_view body p → Gives var_view variable q → Gives code_view handler r → Gives stmt_view result (plain.three trees.Catch p q r) }
 {
     match three_there(body, variable, handler)? {
@@ -174,7 +190,11 @@ pub(crate) fn make_new_array(variable: Part<VarId>, a: Part<CodeExpr>) -> Part<C
 }
 
 // An object or an array that is allocated.
-pub(crate) fn make_alloc(variable: Part<VarId>, class: Option<ClassId>, length: Part<CodeExpr>) -> Part<CodeStmt>
+pub(crate) fn make_alloc(
+    variable: Part<VarId>,
+    class: Option<ClassId>,
+    length: Part<CodeExpr>,
+) -> Part<CodeStmt>
     ensures { (p : Option Name) (q : Option ℕ) (r : Option Expr) → Gives var_view variable p → option_map (λ c. c.0) class ≡ q → Gives expr_view length r → Gives stmt_view result (option_or (plain.both trees.AllocObject p q) (plain.both trees.AllocArray p r)) }
 {
     match class {

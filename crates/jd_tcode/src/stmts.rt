@@ -9,9 +9,9 @@ ghost use Rattle.jd_tread.specs.Behind.{rest_of};
 
 use crate::exprs::read_expr;
 use crate::made_stmts::{
-    make_alloc, make_block, make_break, make_catch, make_evaluate, make_finally, make_frame, make_if,
-    make_new_array, make_put, make_put_element, make_raise, make_return, make_return_void, make_set,
-    make_stop, make_throw, make_throw_unchecked, make_while,
+    make_alloc, make_block, make_break, make_catch, make_evaluate, make_finally, make_frame,
+    make_if, make_new_array, make_put, make_put_element, make_raise, make_return, make_return_void,
+    make_set, make_stop, make_throw, make_throw_unchecked, make_while,
 };
 use crate::words::{
     class_in, field_in, first_word, label_in, loop_in, result_in, variable_in, word_in,
@@ -79,22 +79,37 @@ fn stmt_behind<N: NameMeanings>(
             if parts.len() != 3 {
                 return Ok(None);
             }
-            let [_, variable, a] = parts else { return Ok(None) };
-            make_set(variable_in(alloc, names, variable), read_expr(alloc, names, a))
+            let [_, variable, a] = parts else {
+                return Ok(None)
+            };
+            make_set(
+                variable_in(alloc, names, variable),
+                read_expr(alloc, names, a),
+            )
         }
         StmtHead::WriteField => {
             if parts.len() != 4 {
                 return Ok(None);
             }
-            let [_, object, field, a] = parts else { return Ok(None) };
-            make_put(read_expr(alloc, names, object), Ok(field_in(names, field)), read_expr(alloc, names, a))
+            let [_, object, field, a] = parts else {
+                return Ok(None)
+            };
+            make_put(
+                read_expr(alloc, names, object),
+                Ok(field_in(names, field)),
+                read_expr(alloc, names, a),
+            )
         }
         StmtHead::WriteElement => {
             if parts.len() != 4 {
                 return Ok(None);
             }
             let [_, a, b, c] = parts else { return Ok(None) };
-            make_put_element(read_expr(alloc, names, a), read_expr(alloc, names, b), read_expr(alloc, names, c))
+            make_put_element(
+                read_expr(alloc, names, a),
+                read_expr(alloc, names, b),
+                read_expr(alloc, names, c),
+            )
         }
         StmtHead::Evaluate => {
             if parts.len() != 2 {
@@ -107,21 +122,35 @@ fn stmt_behind<N: NameMeanings>(
             if parts.len() != 4 {
                 return Ok(None);
             }
-            let [_, test, then, other] = parts else { return Ok(None) };
-            make_if(read_expr(alloc, names, test), read_code(alloc, names, then), read_code(alloc, names, other))
+            let [_, test, then, other] = parts else {
+                return Ok(None)
+            };
+            make_if(
+                read_expr(alloc, names, test),
+                read_code(alloc, names, then),
+                read_code(alloc, names, other),
+            )
         }
         StmtHead::While => {
             if parts.len() != 4 {
                 return Ok(None);
             }
-            let [_, number, test, body] = parts else { return Ok(None) };
-            make_while(loop_in(number), read_expr(alloc, names, test), read_code(alloc, names, body))
+            let [_, number, test, body] = parts else {
+                return Ok(None)
+            };
+            make_while(
+                loop_in(number),
+                read_expr(alloc, names, test),
+                read_code(alloc, names, body),
+            )
         }
         StmtHead::Block => {
             if parts.len() != 3 {
                 return Ok(None);
             }
-            let [_, label, body] = parts else { return Ok(None) };
+            let [_, label, body] = parts else {
+                return Ok(None)
+            };
             make_block(label_in(label), read_code(alloc, names, body))
         }
         StmtHead::Break => {
@@ -135,14 +164,22 @@ fn stmt_behind<N: NameMeanings>(
             if parts.len() != 4 {
                 return Ok(None);
             }
-            let [_, body, variable, handler] = parts else { return Ok(None) };
-            make_catch(read_code(alloc, names, body), variable_in(alloc, names, variable), read_code(alloc, names, handler))
+            let [_, body, variable, handler] = parts else {
+                return Ok(None)
+            };
+            make_catch(
+                read_code(alloc, names, body),
+                variable_in(alloc, names, variable),
+                read_code(alloc, names, handler),
+            )
         }
         StmtHead::Finally => {
             if parts.len() != 3 {
                 return Ok(None);
             }
-            let [_, body, last] = parts else { return Ok(None) };
+            let [_, body, last] = parts else {
+                return Ok(None)
+            };
             make_finally(read_code(alloc, names, body), read_code(alloc, names, last))
         }
         StmtHead::Throw => {
@@ -173,8 +210,13 @@ fn stmt_behind<N: NameMeanings>(
             if parts.len() != 3 {
                 return Ok(None);
             }
-            let [_, variable, body] = parts else { return Ok(None) };
-            make_frame(result_in(alloc, names, variable), read_code(alloc, names, body))
+            let [_, variable, body] = parts else {
+                return Ok(None)
+            };
+            make_frame(
+                result_in(alloc, names, variable),
+                read_code(alloc, names, body),
+            )
         }
         StmtHead::Raise => {
             if parts.len() != 2 {
@@ -187,15 +229,26 @@ fn stmt_behind<N: NameMeanings>(
             if parts.len() != 3 {
                 return Ok(None);
             }
-            let [_, variable, made] = parts else { return Ok(None) };
-            make_alloc(variable_in(alloc, names, variable), class_in(names, made), read_array(alloc, names, made))
+            let [_, variable, made] = parts else {
+                return Ok(None)
+            };
+            make_alloc(
+                variable_in(alloc, names, variable),
+                class_in(names, made),
+                read_array(alloc, names, made),
+            )
         }
         StmtHead::NewArray => {
             if parts.len() != 3 {
                 return Ok(None);
             }
-            let [_, variable, a] = parts else { return Ok(None) };
-            make_new_array(variable_in(alloc, names, variable), read_expr(alloc, names, a))
+            let [_, variable, a] = parts else {
+                return Ok(None)
+            };
+            make_new_array(
+                variable_in(alloc, names, variable),
+                read_expr(alloc, names, a),
+            )
         }
         StmtHead::Stop => {
             if parts.len() < 2 {
