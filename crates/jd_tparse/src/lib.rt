@@ -7,10 +7,13 @@ mod fields;
 mod meanings;
 mod names;
 mod new;
+mod parse;
 mod parts;
 mod routines;
 mod sorts;
 mod texts;
 mod variables;
 
+pub use jd_tread::TermRefusal;
 pub use names::Names;
+pub use parse::{parse_formula, parse_term};
