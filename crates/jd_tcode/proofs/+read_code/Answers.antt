@@ -7,7 +7,7 @@ use Rattle.jd_tread.specs.Behind.{rest_of}
 use Rattle.jd_tcode.proofs.Ends.{nothing_behind, nothing_returned, or_none}
 use Rattle.jd_tcode.proofs.Falling.{rest_falls, rest_taken}
 use Rattle.jd_tcode.proofs.Growing.{operands_done, operands_more, statements_done, statements_more}
-use Rattle.jd_tcode.proofs.Headed.{expr_headed}
+use Rattle.jd_tcode.proofs.Headed.{expr_headed, stmt_headed}
 use Rattle.jd_tcode.proofs.Placed.{array_read, one_and_more, one_part, parts_read, three_parts, two_and_more, two_parts}
 use Rattle.jd_tcode.proofs.+read_code.Goals as goal
 
@@ -43,6 +43,13 @@ exprs::read_expr-returns-in-Some-expr_head g t c =
     expr_headed expr_view names c.expr_behind.result (sx_view c.args.x.now) c.deref-in-List.result.now c.deref-in-Some-expr_head.result.now c.in-List.parts.items
     c.in-Some.word.now c.in-Some-expr_head.head (ap sx_view c.in-List.is ∙ list_of c.in-List.parts) c.deref-in-List.ensures.value c.deref-in-Some-expr_head.ensures.value
     (sym (ap (option_map (λ w. w.now)) c.in-Some.is) ∙ c.first_word.ensures) (sym c.in-Some-expr_head.is ∙ c.expr_head.ensures) c.expr_behind.ensures
+
+pub stmts::read_stmt-returns-in-Some-stmt_head : goal.stmts::read_stmt-returns-in-Some-stmt_head
+stmts::read_stmt-returns-in-Some-stmt_head g t c =
+    let names = g.N.NameMeanings.table c.args.names.now in
+    stmt_headed stmt_view names c.stmt_behind.result (sx_view c.args.x.now) c.deref.result.now c.deref-in-Some-stmt_head.result.now c.in-List.parts.items
+    c.in-Some.word.now c.in-Some-stmt_head.head (ap sx_view c.in-List.is ∙ list_of c.in-List.parts) c.deref.ensures.value c.deref-in-Some-stmt_head.ensures.value
+    (sym (ap (option_map (λ w. w.now)) c.in-Some.is) ∙ c.first_word.ensures) (sym c.in-Some-stmt_head.is ∙ c.stmt_head.ensures) c.stmt_behind.ensures
 
 -- ---- the length in `(arr X)`
 
