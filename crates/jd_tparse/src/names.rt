@@ -6,6 +6,7 @@ use jd_syntax::VarDecl;
 
 /// The names that text may use: those of a program's classes, fields and methods, and those of some variables and constants.
 /// A name that begins with `@` or `#` and the letter of a sort tells its sort, and is always among them.
+#[derive(Clone, Copy)]
 pub struct Names<'a> {
     pub(crate) classes: &'a Classes,
     pub(crate) vars: &'a [VarDecl],
