@@ -155,13 +155,21 @@ fn sequents_are_copied(rt: HostRuntime) -> Result<(), Fail> {
     Ok(())
 }
 
-// The sequent with `true` at a place, by both functions.
+// The sequent with `true` at a place, moved there.
+fn with_true_moved(alloc: Global, sequent: Sequent, place: &Place) -> Result<Sequent, Fail> {
+    let Some(Node::Formula(_)) = at(&sequent, place) else {
+        return Err(Fail::from("no formula"));
+    };
+    Ok(put_at_place(alloc, sequent, place, Formula::TrueFormula)?)
+}
+
+// The same, copied and moved.
 fn with_true(alloc: Global, sequent: &Sequent, place: &Place) -> Result<(Sequent, Sequent), Fail> {
     let Some(Node::Formula(_)) = at(sequent, place) else {
         return Err(Fail::from("no formula"));
     };
     let copied = replace_at(alloc, sequent, place, &Formula::TrueFormula)?;
-    let moved = put_at_place(alloc, sequent.copy(alloc)?, place, Formula::TrueFormula)?;
+    let moved = with_true_moved(alloc, sequent.copy(alloc)?, place)?;
     Ok((copied, moved))
 }
 
