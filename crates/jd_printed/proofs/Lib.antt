@@ -1,0 +1,4 @@
+pub mod Bytes
+pub mod Shown
+pub mod Lines
+pub mod Readback
