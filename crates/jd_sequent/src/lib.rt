@@ -4,6 +4,7 @@
 mod bad;
 mod laws;
 mod limits;
+mod names;
 mod obligation;
 mod rule;
 mod script;
@@ -12,6 +13,7 @@ pub use bad::Bad;
 pub use jd_model::{BodyForm, CaseForm, Contracts, InvForm, Node, Place, Sequent, Side};
 pub use laws::derivations_are_sound;
 pub use limits::is_within_limits;
+pub use names::OfTask;
 pub use obligation::{LoopForm, Obligation, Task};
 pub use rule::RuleSet;
 pub use script::{ScriptNode, ScriptTree, Step, one_tree};

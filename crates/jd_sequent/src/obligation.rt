@@ -3,6 +3,7 @@ ghost use Rattle.jd_model.specs.ContractForms.{contracts_view};
 ghost use Rattle.jd_sequent.specs.Obligations.{obligation_view, task_view};
 
 use jd_base::{ClassId, ConstDecl, MethodId};
+use jd_classes::Classes;
 use jd_model::{Contracts, Sequent};
 use jd_syntax::{VarDecl, VarId};
 use jd_term::{Formula, Loc, Term};
@@ -48,6 +49,8 @@ pub struct Obligation {
 /// What the rules may look up beside the sequent.
 #[derive(Clone, Copy)]
 pub struct Task<'a> {
+    /// The tables of the program's classes.
+    pub classes: &'a Classes,
     /// The contracts, invariants and bodies of the program.
     pub contracts: &'a Contracts,
     /// The obligation that is being proved.
@@ -55,14 +58,20 @@ pub struct Task<'a> {
 }
 
 impl<'a> Task<'a> {
-    /// The task of an obligation among the contracts of its program. Takes no memory.
-    pub fn of(contracts: &'a Contracts, obligation: &'a Obligation) -> Task<'a>
-        ensures { task_view result ≡ record {
+    /// The task of an obligation among the classes and contracts of its program. Takes no memory.
+    pub fn of(
+        classes: &'a Classes,
+        contracts: &'a Contracts,
+        obligation: &'a Obligation,
+    ) -> Task<'a>
+        ensures view { task_view result ≡ record {
           contracts = contracts_view contracts.now;
           obligation = obligation_view obligation.now;
         } }
+        ensures classes { result.classes.now ≡ classes.now }
     {
         Task {
+            classes,
             contracts,
             obligation,
         }

@@ -3,6 +3,7 @@ use Rattle.std.specs.Prelude.{◌≡◌, ℕ, List, [], ◌∷◌}
 use Rattle.jd_first_java.specs.Programs.{Program}
 use Rattle.jd_first_java.specs.Reads as java
 use Rattle.jd_first_java.specs.Reads.{program_view}
+use Rattle.jd_files.specs.Files.{HaveTables}
 use Rattle.jdl.specs.FileAnswers.{IsRefusal}
 use Rattle.jdl.specs.Sources.{AreProgram}
 use Rattle.jdl.specs.declared.answer.Understood.{Understood}
@@ -18,7 +19,7 @@ pub record IsOneProgram (files : List (List ℕ)) (q : Program) : Type 0 where
 abbrev pub IsNoProgram : List (List ℕ) → Type 0
 IsNoProgram files = (file : List ℕ) (q : Program) → files ≡ file ∷ [] → java.Reads file q → ⊥
 
--- a program, or that they are none
+-- a program, with the tables of its classes, or that they are none
 abbrev pub IsUnderstood : List (List ℕ) → List (List ℕ) → Understood → Type 0
-IsUnderstood names files (code.Program q) = AreProgram files (program_view q)
+IsUnderstood names files (code.Program q classes) = AreProgram files (program_view q) × HaveTables files classes
 IsUnderstood names files (code.Refused a) = IsRefusal names files a.status a.text.items

@@ -1,11 +1,11 @@
-ghost use Rattle.std.specs.Prelude.{◌≡◌, ◌<◌, ◌≤◌, ℕ, List, Option, length, Some, None, IfOk, IfSome, OnOk, IsErrOf, MatchOption, map, option_map};
+ghost use Rattle.std.specs.Prelude.{◌≡◌, ◌<◌, ◌≤◌, ℕ, List, Option, length, Some, None, IfOk, IfSome, OnOk, IsErrOf, MatchOption, MatchResult, map, option_map};
 ghost use Rattle.std.specs.List.{All};
 ghost use Rattle.std.specs.Option.{ForSome};
 ghost use Rattle.jd_base.specs.Faults.{Rose, SameCounts, SameContents};
 ghost use Rattle.jd_sequent.specs.Trees.{tree_of};
 ghost use Rattle.jd_sequent.specs.Steps.{node_view};
 ghost use Rattle.jd_replay.specs.Verdicts.{IsVerdict};
-ghost use Rattle.jd_files.specs.Files.{AreProgramClasses, file_limit, files_limit};
+ghost use Rattle.jd_files.specs.Files.{HaveTables, file_limit, files_limit};
 ghost use Rattle.jd_first_java.specs.Programs.{IsProgram};
 ghost use Rattle.jd_first_java.specs.Reads.{program_view};
 ghost use Rattle.jd_proofs.specs.Answers.{tree_view};
@@ -27,6 +27,7 @@ use crate::status::Status;
 use crate::text::{file_too_long, proof_too_long, report_too_long, too_many_files, unbuilt, usage};
 use crate::words::{ReplayFiles, replay_files};
 use jd_base::{Library, NoMemory, ReadRefusal, read_whole};
+use jd_classes::Classes;
 use jd_files::{classes_of, one_refusal};
 use jd_first_java::{Program, read_program};
 use jd_first_oblig::{contracts, name_of, obligation};
@@ -84,6 +85,7 @@ pub struct Answer {
 fn verdict_of<R: RuleSet>(
     alloc: Global,
     rules: &R,
+    classes: &Classes,
     program: &Program,
     tree: &ScriptTree,
 ) -> Result<Verdict, NoMemory>
@@ -94,7 +96,7 @@ fn verdict_of<R: RuleSet>(
 {
     let contracts = contracts(alloc, program)?;
     let obligation = obligation(alloc, program)?;
-    let task = Task::of(&contracts, &obligation);
+    let task = Task::of(classes, &contracts, &obligation);
     replay(alloc, rules, &task, &obligation.sequent, tree)
 }
 
@@ -102,6 +104,7 @@ fn verdict_of<R: RuleSet>(
 fn replayed<R: RuleSet>(
     alloc: Global,
     rules: &R,
+    classes: &Classes,
     program: &Program,
     proof: Option<ScriptTree>,
 ) -> Result<Answer, NoMemory>
@@ -118,7 +121,7 @@ fn replayed<R: RuleSet>(
             text: missing(alloc, &name)?,
         }),
         Some(tree) => {
-            let verdict = verdict_of(alloc, rules, program, &tree)?;
+            let verdict = verdict_of(alloc, rules, classes, program, &tree)?;
             Ok(Answer {
                 status: status_of(&verdict),
                 text: text_of(alloc, &name, &verdict)?,
@@ -158,27 +161,27 @@ fn program_of(alloc: Global, files: &[Vec<u8>]) -> Result<Option<Program>, NoMem
 /// What the Java files are.
 #[derive(Drop)]
 pub enum Understood {
-    /// A program of the first form.
-    Program(Program),
+    /// A program of the first form, with the tables of its classes.
+    Program(Program, Classes),
     /// None: the answer that tells why.
     Refused(Answer),
 }
 
-// The answer for Java files of these names that are no program's; none where they are.
-fn refused_files(
+// The tables of the classes of Java files of these names; the answer where they are no program's.
+fn tables_of(
     alloc: Global,
     names: &[String],
     files: &[Vec<u8>],
-) -> Result<Option<Answer>, NoMemory>
+) -> Result<Result<Classes, Answer>, NoMemory>
     requires few { length names.now ≤ files_limit }
     requires each { length names.now ≡ length files.now }
     requires within { All (λ f. length f.items ≤ file_limit) files.now }
-    ensures { IfOk result (λ r. MatchOption r (AreProgramClasses (map (λ f. f.items) files.now))
+    ensures { IfOk result (λ r. MatchResult r (HaveTables (map (λ f. f.items) files.now))
         (λ a. IsRefusal (word_texts names.now) (map (λ f. f.items) files.now) a.status a.text.items)) }
 {
     match classes_of(alloc, files) {
-        Ok(_) => Ok(None),
-        Err(refusal) => Ok(Some(refused(alloc, names, refusal)?)),
+        Ok(classes) => Ok(Ok(classes)),
+        Err(refusal) => Ok(Err(refused(alloc, names, refusal)?)),
     }
 }
 
@@ -190,11 +193,12 @@ fn understand(alloc: Global, names: &[String], files: &[Vec<u8>]) -> Result<Unde
     requires within { All (λ f. length f.items ≤ file_limit) files.now }
     ensures { IfOk result (IsUnderstood (word_texts names.now) (map (λ f. f.items) files.now)) }
 {
-    if let Some(answer) = refused_files(alloc, names, files)? {
-        return Ok(Understood::Refused(answer));
-    }
+    let classes = match tables_of(alloc, names, files)? {
+        Err(answer) => return Ok(Understood::Refused(answer)),
+        Ok(classes) => classes,
+    };
     match program_of(alloc, files)? {
-        Some(program) => Ok(Understood::Program(program)),
+        Some(program) => Ok(Understood::Program(program, classes)),
         None => Ok(Understood::Refused(Answer {
             status: Status::RefusedSource,
             text: unbuilt(alloc, names[0].as_bytes())?,
@@ -206,6 +210,7 @@ fn understand(alloc: Global, names: &[String], files: &[Vec<u8>]) -> Result<Unde
 fn answer_for<R: RuleSet>(
     alloc: Global,
     rules: &R,
+    classes: &Classes,
     program: &Program,
     name: &[u8],
     proof: &[u8],
@@ -221,7 +226,7 @@ fn answer_for<R: RuleSet>(
         Err(refusal) => return unread(alloc, name, &refusal),
         Ok(proof) => proof,
     };
-    let report = replayed(alloc, rules, program, proof)?;
+    let report = replayed(alloc, rules, classes, program, proof)?;
     let answer = within_limit(alloc, report)?;
     Ok(answer)
 }
@@ -247,9 +252,14 @@ fn judged<R: RuleSet>(
 {
     match understand(alloc, named.files, files)? {
         Understood::Refused(answer) => Ok(answer),
-        Understood::Program(program) => {
-            answer_for(alloc, rules, &program, named.proof.as_bytes(), proof)
-        }
+        Understood::Program(program, classes) => answer_for(
+            alloc,
+            rules,
+            &classes,
+            &program,
+            named.proof.as_bytes(),
+            proof,
+        ),
     }
 }
 

@@ -21,7 +21,7 @@ returns-in-Program-clause-answer g c =
     let q = program_view c.in-Program.program in
     let names = word_texts c.args.named.now.files.now in
     let files = map (λ f. f.items) c.args.files.now in
-    let program = rw c.in-Program.is at c.in_ok-answer.ensures in
+    let program = (rw c.in-Program.is at c.in_ok-answer.ensures).0 in
     let leads = leads_of (g.R.RuleSet.instance c.args.rules.now) in
     let causes = causes_of (g.R.RuleSet.cause c.args.rules.now) in
     IfOk-weaker c.answer_for.result (λ a. IsProofAnswer (leads q) (causes q) q c.as_bytes.result.now c.args.proof.now a.status a.text.items)

@@ -18,7 +18,7 @@ obligation-requires g c = literals_in_range (program_view c.args.program.now) c.
 
 pub replay-requires : goal.replay-requires
 replay-requires g c =
-    accepts_its_sequent (g.R.RuleSet.accepts c.args.rules.now) c.requires.accepts (program_view c.args.program.now) _ _ (task_of_program _ _ _ _ c.of-task.ensures c.in_ok-contracts.ensures c.in_ok-obligation.ensures) (ap (λ o. o.sequent) c.in_ok-obligation.ensures)
+    accepts_its_sequent (g.R.RuleSet.accepts c.args.rules.now) c.requires.accepts (program_view c.args.program.now) _ _ (task_of_program _ _ _ _ c.of-task.ensures.view c.in_ok-contracts.ensures c.in_ok-obligation.ensures) (ap (λ o. o.sequent) c.in_ok-obligation.ensures)
 
 pub returns : goal.returns
 returns g c =
@@ -26,4 +26,4 @@ returns g c =
     let instance = g.R.RuleSet.instance c.args.rules.now in
     let cause = g.R.RuleSet.cause c.args.rules.now in
     IfOk-weaker c.replay.result _ (IsVerdict (leads_of instance (program_view c.args.program.now)) (causes_of cause (program_view c.args.program.now)) tree (obligation_sequent (program_view c.args.program.now)))
-    (λ verdict. verdict_of_program instance cause (program_view c.args.program.now) _ _ tree verdict (task_of_program _ _ _ _ c.of-task.ensures c.in_ok-contracts.ensures c.in_ok-obligation.ensures) (ap (λ o. o.sequent) c.in_ok-obligation.ensures)) c.replay.ensures.verdict
+    (λ verdict. verdict_of_program instance cause (program_view c.args.program.now) _ _ tree verdict (task_of_program _ _ _ _ c.of-task.ensures.view c.in_ok-contracts.ensures c.in_ok-obligation.ensures) (ap (λ o. o.sequent) c.in_ok-obligation.ensures)) c.replay.ensures.verdict
