@@ -37,12 +37,7 @@ pub fn parse_formula(alloc: Global, x: &Sx, names: &Names<'_>) -> Result<Formula
 /// # Errors
 ///
 /// The least that applies to any of its parts, as of [`parse_formula`].
-pub fn parse_term(
-    alloc: Global,
-    x: &Sx,
-    sort: Sort,
-    names: &Names<'_>,
-) -> Result<Term, TermRefusal>
+pub fn parse_term(alloc: Global, x: &Sx, sort: Sort, names: &Names<'_>) -> Result<Term, TermRefusal>
     ensures { MatchResult result
         (λ t. term_answer (table_of names.now) sort (sx_view x.now) ≡ Is (term_view t))
         (λ e. IsFault e (term_answer (table_of names.now) sort (sx_view x.now))) }
