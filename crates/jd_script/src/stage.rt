@@ -1,11 +1,12 @@
 //! A token of a file.
 
-ghost use Rattle.std.specs.Prelude.{◌≡◌, IfOk, OnOk, List, []};
+ghost use Rattle.std.specs.Prelude.{◌≡◌, IsTrue, IfOk, OnOk, List, []};
+ghost use Rattle.jd_sequent.specs.Trees.{are_trees};
 ghost use Rattle.jd_bracketed.specs.TokenViews.{kind_view};
 ghost use Rattle.jd_scripts.specs.Scripts as scripts;
 ghost use Rattle.jd_scripts.specs.Scripts.{PlainProof, names_of};
 ghost use Rattle.jd_scripts.specs.Machine as machine;
-ghost use Rattle.jd_scripts.specs.Machine.{decide, Goes, GoesIf, NameBehind};
+ghost use Rattle.jd_scripts.specs.Machine.{decide, Goes, GoesIf, NameBehind, IsWhole};
 ghost use Rattle.jd_script.specs.ProofViews.{proofs_view, AreHashed};
 ghost use Rattle.jd_script.specs.PartViews.{part_view};
 ghost use Rattle.jd_script.specs.TurnViews.{limits_view, context_of, nodes_of, places_of, part_turn};
@@ -19,7 +20,7 @@ use crate::stop::{Limits, PartTurn, Stop};
 use crate::turn::{in_tree, is_word};
 use jd_base::{NoMemory, copy_bytes};
 use jd_bracketed::Kind;
-use jd_sequent::one_tree;
+use jd_sequent::ScriptTree;
 use std::alloc::Global;
 use std::mem;
 
@@ -148,19 +149,15 @@ fn at_name(
 
 // The end of a proof.
 fn proof_closed(alloc: Global, proofs: &mut Proofs, proof: &mut OpenProof) -> Result<Turn, NoMemory>
-    requires { AreHashed proofs.old }
+    requires hashed { AreHashed proofs.old }
+    requires whole { IsTrue (are_trees 1 (nodes_of proof.old)) }
     ensures turn { IfOk result (λ r. (l : scripts.Limits) → turn_view (proofs_view proofs.new) proof.new r ≡ decide l (machine.proof_closed (context_of (proofs_view proofs.old) proof.old) (nodes_of proof.old))) }
     ensures hashed { OnOk result (AreHashed proofs.new) }
 {
     let ended = mem::replace(proof, OpenProof::new(alloc, Vec::new(alloc)));
     let OpenProof { name, nodes, .. } = ended;
-    match one_tree(nodes) {
-        None => Ok(Turn::Stops(Stop::Wrong)),
-        Some(tree) => {
-            proofs.add(alloc, name, tree)?;
-            Ok(Turn::Goes(Stage::ProofNext))
-        }
-    }
+    proofs.add(alloc, name, ScriptTree { nodes })?;
+    Ok(Turn::Goes(Stage::ProofNext))
 }
 
 // A token behind the last tree of a proof.
@@ -170,7 +167,8 @@ fn at_end(
     proof: &mut OpenProof,
     kind: Kind<'_>,
 ) -> Result<Turn, NoMemory>
-    requires { AreHashed proofs.old }
+    requires hashed { AreHashed proofs.old }
+    requires whole { IsTrue (are_trees 1 (nodes_of proof.old)) }
     ensures turn { IfOk result (λ r. (l : scripts.Limits) → turn_view (proofs_view proofs.new) proof.new r
         ≡ decide l (machine.if_close (kind_view kind.entry) (machine.proof_closed (context_of (proofs_view proofs.old) proof.old) (nodes_of proof.old)))) }
     ensures hashed { OnOk result (AreHashed proofs.new) }
@@ -202,7 +200,8 @@ fn in_proof(
     part: Part,
     kind: Kind<'_>,
 ) -> Result<Turn, NoMemory>
-    requires { AreHashed proofs.old }
+    requires hashed { AreHashed proofs.old }
+    requires whole { part_view proof.old.draft part ≡ machine.TreeEnd → IsTrue (are_trees 1 (nodes_of proof.old)) }
     ensures turn { IfOk result (λ r. turn_view (proofs_view proofs.new) proof.new r
         ≡ decide (limits_view limits) (machine.in_proof (context_of (proofs_view proofs.old) proof.old) (part_view proof.old.draft part) (nodes_of proof.old) (places_of proof.old) proof.old.steps (kind_view kind.entry))) }
     ensures hashed { OnOk result (AreHashed proofs.new) }
@@ -222,7 +221,8 @@ pub(crate) fn stage_step(
     stage: Stage,
     kind: Kind<'_>,
 ) -> Result<Turn, NoMemory>
-    requires { AreHashed proofs.old }
+    requires hashed { AreHashed proofs.old }
+    requires whole { IsWhole (state_view (proofs_view proofs.old) proof.old stage) }
     ensures turn { IfOk result (λ r. turn_view (proofs_view proofs.new) proof.new r
         ≡ machine.step (limits_view limits) (state_view (proofs_view proofs.old) proof.old stage) (kind_view kind.entry)) }
     ensures hashed { OnOk result (AreHashed proofs.new) }

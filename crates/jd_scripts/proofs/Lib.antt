@@ -5,6 +5,7 @@ pub mod Complete
 pub mod Parts
 pub mod Open
 pub mod Sound
+pub mod Reaching
 pub mod Fronts
 pub mod Looser
 pub mod Named

@@ -1,5 +1,5 @@
 -- Reading the tokens of a file from left to right, with the steps that are open.
-use Rattle.std.specs.Prelude.{ℕ, zero, suc, ◌+◌, ◌==◌, Bool, not, ◌||◌, ◌&&◌, cond, nat_lt, List, [], ◌∷◌, ◌++◌, length, Option, Some, None, option_map, Result, Ok, Err, codes}
+use Rattle.std.specs.Prelude.{◌≡◌, ℕ, zero, suc, ◌+◌, ◌==◌, Bool, true, not, ◌||◌, ◌&&◌, cond, nat_lt, List, [], ◌∷◌, ◌++◌, length, Option, Some, None, option_map, Result, Ok, Err, codes}
 use Rattle.std.specs.List.{list_any}
 use Rattle.std.specs.Str.{bytes_eq}
 use Rattle.jd_syntax.specs.Sxs.{Bracketed, Atom}
@@ -312,3 +312,18 @@ then_run f (Err e) = Err e
 unfoldable pub run : Limits → List TokenKind → State → Result State Fault
 run l [] st = Ok st
 run l (t ∷ ts) st = then_run (run l ts) (step l st t)
+
+-- some tokens lead there from a file's beginning
+abbrev pub IsReached : Limits → State → Type 0
+IsReached l st = (ts : List TokenKind) × (run l ts FileNext ≡ Ok st)
+
+-- behind the last tree of a proof there are the nodes of one tree
+abbrev pub IsWhole : State → Type 0
+IsWhole FileNext = Unit {0}
+IsWhole WordNext = Unit {0}
+IsWhole VersionNext = Unit {0}
+IsWhole (ProofNext v done) = Unit {0}
+IsWhole (ProofWord v done) = Unit {0}
+IsWhole (NameNext v done) = Unit {0}
+IsWhole (InProof c q ns is k) = q ≡ TreeEnd → are_trees 1 ns ≡ true
+IsWhole (FileEnd v done) = Unit {0}
