@@ -1,5 +1,5 @@
 -- What is told of files that are refused, and that it is one.
-use Rattle.std.proofs.Common.{◌≡◌, ◌⊎◌, inl, inr, ◌<◌, ℕ, List, [], ◌∷◌, length, get_or, Option, Some, None, ap, sym, refl, subst, ◌∙◌, arith}
+use Rattle.std.proofs.Common.{◌≡◌, ◌⊎◌, inl, inr, ◌<◌, ℕ, List, ◌∷◌, length, get_or, Option, Some, None, ap, sym, refl, subst, ◌∙◌, arith}
 use Rattle.std.specs.Prelude.{option_map, IfOk, MatchOption, Result, String, string_bytes}
 use Rattle.std.specs.Global.{Global}
 use Rattle.std.specs.List.{slice_get}
@@ -8,7 +8,6 @@ use Rattle.std.proofs.lemmas.List.{get_or-map, length-map}
 use Rattle.std.proofs.lemmas.Option.{none-some, same_Some, slice_get_read}
 use Rattle.jd_source.specs.Sources.{Reason, SameReason}
 use Rattle.jd_jclasses.specs.Refusals as classes
-use Rattle.jd_classes.specs.declared.refusal.ClassRefusal.{ClassRefusal}
 use Rattle.jd_files.specs.Laws.{OneFilesRefusal}
 use Rattle.jd_files.specs.Refusals.{AreRefused, PlainRefusal, OfFile, OfClasses, SameRefusal, of_one_file, same, RefusesFiles, class_refusal_of}
 use Rattle.jd_files.specs.declared.refusal.FilesRefusal.{FilesRefusal}

@@ -1,5 +1,5 @@
 -- The answer for a program and a proof file.
-use Rattle.std.proofs.Common.{◌≡◌, ◌<◌, ◌≤◌, inl, inr, ℕ, List, [], ◌∷◌, length, map, Option, Some, None, option_map, refl, sym, ap, subst, ◌∙◌, arith}
+use Rattle.std.proofs.Common.{◌≡◌, ◌<◌, ◌≤◌, inl, inr, ℕ, List, [], ◌∷◌, length, Option, Some, refl, sym, subst, arith}
 use Rattle.std.proofs.lemmas.Bool.{cases_lt}
 use Rattle.std.proofs.lemmas.Option.{same_Some}
 use Rattle.jd_bracketed.specs.Tokens.{Placed, tokens_of}
@@ -11,18 +11,18 @@ use Rattle.jd_scripts.specs.Answers.{Answer, IsAnswer, limits_of, most_levels, m
 use Rattle.jd_script.specs.Answers.{IsRefused}
 use Rattle.jd_script.specs.declared.refusal.ScriptRefusal.{ScriptRefusal}
 use Rattle.jd_script.specs.declared.refusal.ScriptRefusal.TheVariants as refusals
-use Rattle.jd_proofs.specs.Outcomes.{NoFile, UnknownObligation, IsOutcome, outcome}
+use Rattle.jd_proofs.specs.Outcomes.{NoFile, UnknownObligation, outcome}
 use Rattle.jd_proofs.specs.Answers.{IsUnread}
 use Rattle.jd_proofs.specs.declared.refusal.ProofsRefusal.{ProofsRefusal}
 use Rattle.jd_proofs.specs.declared.refusal.ProofsRefusal.TheVariants as code
 use Rattle.jd_first_java.specs.Programs.{Program}
 use Rattle.jd_first_oblig.specs.Obligations.{obligation_name, obligation_sequent}
-use Rattle.jdl.specs.Reports.{IsReport, report_limit_text, script_refusal_text, unknown_kind}
+use Rattle.jdl.specs.Reports.{IsReport, report_limit_text}
 use Rattle.jdl.specs.Answers.{HasProof, IsProofAnswer, IsNoFileAnswer, refused_file, many_steps, no_file, unknown, long_report, replayed, report_limit}
-use Rattle.jdl.specs.Scripts.{plain_answer, TellsFile, IsUnreadAnswer}
+use Rattle.jdl.specs.Scripts.{plain_answer, IsUnreadAnswer}
 use Rattle.jdl.specs.Statuses.{IsJudged}
 use Rattle.jdl.specs.declared.status.Status.{Status}
-use Rattle.jdl.specs.declared.status.Status.TheVariants.{RefusedScript, Limit}
+use Rattle.jdl.specs.declared.status.Status.TheVariants.{Limit}
 
 -- ---- proof files that give no proofs
 

@@ -1,6 +1,5 @@
 -- What each status of the answer for a program and a proof file tells.
-use Rattle.std.proofs.Common.{◌≡◌, ◌<◌, ◌⊎◌, inl, inr, ℕ, List, [], ◌∷◌, length, Option, Some, None, ap, sym, refl, subst, ◌∙◌}
-use Rattle.std.proofs.lemmas.Option.{none-some}
+use Rattle.std.proofs.Common.{◌≡◌, ◌<◌, ◌⊎◌, inl, inr, ℕ, List, [], ◌∷◌, length, Option, Some, ap, sym, refl, subst, ◌∙◌}
 use Rattle.jd_bracketed.specs.Tokens.{tokens_of}
 use Rattle.jd_model.specs.Sequents.{PlainSequent}
 use Rattle.jd_sequent.specs.Trees.{PlainStep, ProofTree}
@@ -8,10 +7,10 @@ use Rattle.jd_sequent.specs.Derives.{Derives}
 use Rattle.jd_scripts.specs.Answers as script
 use Rattle.jd_scripts.specs.Answers.{most_levels, most_steps}
 use Rattle.jd_scripts.proofs.Once.{one_answer}
-use Rattle.jd_proofs.specs.Outcomes.{Outcome, NoFile, UnknownObligation, Trees, IsOutcome, outcome}
+use Rattle.jd_proofs.specs.Outcomes.{Outcome, NoFile, Trees, IsOutcome, outcome}
 use Rattle.jd_first_java.specs.Programs.{Program}
 use Rattle.jd_first_oblig.specs.Obligations.{obligation_name, obligation_sequent}
-use Rattle.jdl.specs.Reports.{IsReport, script_kind}
+use Rattle.jdl.specs.Reports.{IsReport}
 use Rattle.jdl.specs.Answers.{HasProof, IsNoFileAnswer, refused_file, many_steps, IsOutcomeAnswer, no_file, unknown, long_report, replayed, IsProofAnswer, report_limit}
 use Rattle.jdl.specs.declared.status.Status.{Status}
 use Rattle.jdl.specs.declared.status.Status.TheVariants.{Done, NotAccepted, RefusedSource, RefusedScript, Limit}

@@ -1,11 +1,11 @@
 -- What the reading of all files tells.
-use Rattle.std.proofs.Common.{◌≡◌, ◌<◌, ◌≤◌, ℕ, List, [], ◌∷◌, length, map, Option, Some, ap, sym, subst, ◌∙◌, arith}
+use Rattle.std.proofs.Common.{◌≡◌, ◌<◌, ◌≤◌, ℕ, List, [], ◌∷◌, length, Option, Some, ap, sym, subst, ◌∙◌, arith}
 use Rattle.std.specs.Option.{ForSome}
 use Rattle.std.proofs.lemmas.List.Elements.{Contains-append_right}
 use Rattle.jd_base.specs.Faults.{Rose, SameContents, SameCounts}
 use Rattle.jd_model.specs.Sequents.{PlainSequent}
 use Rattle.jd_sequent.specs.Trees.{PlainStep}
-use Rattle.jd_files.specs.Files.{file_limit, files_limit}
+use Rattle.jd_files.specs.Files.{files_limit}
 use Rattle.jd_first_java.specs.Programs.{Program}
 use Rattle.jdl.specs.Words.{replay_words}
 use Rattle.jdl.specs.Reports.{proof_limit_text, file_limit_text, files_limit_text}

@@ -1,6 +1,6 @@
 -- What the Java files are found to be.
 use Rattle.std.specs.Global.{Vec}
-use Rattle.std.proofs.Common.{◌≡◌, ◌<◌, ◌≤◌, ℕ, zero, suc, List, [], ◌∷◌, length, map, get_or, ap, sym, subst, ◌∙◌, arith}
+use Rattle.std.proofs.Common.{◌≡◌, ◌≤◌, ℕ, List, [], ◌∷◌, length, map, get_or, ap, sym, subst, ◌∙◌, arith}
 use Rattle.std.specs.Prelude.{IfOk, MatchOption, Option, Some, None, Result}
 use Rattle.std.specs.List.{slice_get}
 use Rattle.std.proofs.lemmas.Option.{none-some, same_Some}

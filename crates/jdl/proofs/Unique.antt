@@ -12,7 +12,7 @@ use Rattle.jd_first_java.specs.Programs.{Program}
 use Rattle.jd_first_java.specs.Reads as java
 use Rattle.jd_first_java.proofs.Meaning.{one_meaning}
 use Rattle.jd_scripts.specs.Answers as script
-use Rattle.jd_proofs.specs.Outcomes.{Outcome, Trees, NoFile}
+use Rattle.jd_proofs.specs.Outcomes.{Outcome}
 use Rattle.jd_first_oblig.specs.Obligations.{obligation_name, obligation_sequent}
 use Rattle.jdl.specs.Words.{replay_words}
 use Rattle.jd_files.specs.Files.{file_limit, files_limit}

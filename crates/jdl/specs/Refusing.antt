@@ -5,7 +5,6 @@ use Rattle.jd_source.specs.Sources.{reason_of}
 use Rattle.jd_files.specs.Refusals.{IsInFiles, PlainRefusal, OfFile, OfClasses, class_refusal_of}
 use Rattle.jd_files.specs.declared.refusal.FilesRefusal.{FilesRefusal}
 use Rattle.jd_files.specs.declared.refusal.FilesRefusal.TheVariants as code
-use Rattle.jd_classes.specs.declared.refusal.ClassRefusal.{ClassRefusal}
 use Rattle.jdl.specs.FileAnswers.{Tells}
 use Rattle.jdl.specs.Reports.{class_refusal_text}
 use Rattle.jdl.specs.declared.status.Status.{Status}

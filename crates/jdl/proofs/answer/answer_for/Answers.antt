@@ -1,4 +1,4 @@
-use Rattle.std.proofs.Common.{◌∙◌, option_map}
+use Rattle.std.proofs.Common.{option_map}
 use Rattle.std.proofs.lemmas.Result.{IfOk-weaker}
 use Rattle.jd_first_java.specs.Reads.{program_view}
 use Rattle.jd_proofs.specs.Answers.{tree_view}

@@ -1,4 +1,4 @@
-use Rattle.std.proofs.Common.{rules, ◌∙◌, map, arith, sym, ap}
+use Rattle.std.proofs.Common.{rules, ◌∙◌, map, arith}
 use Rattle.std.specs.Prelude.{IsErrOf, string_bytes}
 use Rattle.std.proofs.lemmas.List.{length-map}
 use Rattle.jdl.specs.Answers.{leads_of, causes_of, usage}

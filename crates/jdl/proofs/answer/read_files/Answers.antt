@@ -1,6 +1,5 @@
-use Rattle.std.proofs.Common.{rules, ◌≡◌, ◌+◌, ◌++◌, ◌∷◌, [], List, length, map, sym, ap, subst, arith, ◌∙◌}
+use Rattle.std.proofs.Common.{rules, ◌+◌, map, sym, subst, arith}
 use Rattle.std.specs.Prelude.{IsErrOf}
-use Rattle.std.specs.Global.{Vec}
 use Rattle.jdl.specs.declared.answer.Stop.TheVariants.{NoMemory, ReadFault}
 use Rattle.jdl.specs.Words.{word_texts}
 use Rattle.jdl.proofs.Files.{AreReadTo, all_read, finds_long, has_risen, reads_more, same_still, still_same}
