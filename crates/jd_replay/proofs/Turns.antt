@@ -1,11 +1,13 @@
 -- The turns of a replay's loop, over the code's values.
-use Rattle.std.proofs.Common.{◌≡◌, ℕ, ◌+◌, ◌<◌, ◌≤◌, true, List, [], ◌∷◌, ◌++◌, length, Some, None, get_or, refl, sym, ap, ◌∙◌, subst, arith, map, drop, reverse}
+use Rattle.std.proofs.Common.{◌≡◌, ℕ, ◌+◌, ◌<◌, ◌≤◌, true, List, [], ◌∷◌, ◌++◌, length, Option, Some, None, get_or, refl, sym, ap, ◌∙◌, subst, arith, map, option_map, drop, reverse}
+use Rattle.std.specs.Global.{Box}
 use Rattle.std.proofs.lemmas.List.{drop_all, drop_more, get_or-map, length-map, map-append, reverse-append, reverse-reverse}
 use Rattle.jd_model.specs.declared.sequent.Sequent.{Sequent}
 use Rattle.jd_model.specs.Sequents.{PlainSequent, sequent_view}
+use Rattle.jd_sequent.specs.declared.script.Step.{Step}
 use Rattle.jd_sequent.specs.declared.script.ScriptNode.{ScriptNode}
 use Rattle.jd_sequent.specs.Trees.{PlainStep, PlainNode, ProofTree, are_trees, tree_of, steps_in}
-use Rattle.jd_sequent.specs.Steps.{node_view}
+use Rattle.jd_sequent.specs.Steps.{step_view, boxed_view, node_view}
 use Rattle.jd_sequent.specs.Derives.{Derives}
 use Rattle.jd_replay.specs.declared.verdict.Cause.TheVariants.{BranchCount}
 use Rattle.jd_replay.specs.FirstBad.{FirstBad}
@@ -30,6 +32,10 @@ with_premises a b ps e =
     ∙ ap reverse (map-append sequent_view b (reverse ps) ∙ ap (λ l. map sequent_view b ++ l) (map_back ps))
     ∙ reverse-append (map sequent_view b) (reverse (map sequent_view ps))
     ∙ ap (λ l. l ++ reverse (map sequent_view b)) (reverse-reverse (map sequent_view ps))
+
+-- the step in a node's box
+pub boxed_step : (o : Option (Box Step)) (b : Box Step) (s : Step) → o ≡ Some b → s ≡ b.value → option_map boxed_view o ≡ Some (step_view s)
+boxed_step o b s is e = ap (option_map boxed_view) is ∙ ap (λ t. Some (step_view t)) (sym e)
 
 pub start_turn : (leads : PlainSequent → PlainStep → List PlainSequent → Type 0) (causes : PlainSequent → PlainStep → ℕ → Type 0) (accepts : PlainSequent → Type 0) (nodes : List PlainNode) (first : Sequent) (stack goals : List Sequent) (steps : ℕ) → accepts (sequent_view first) → stack ≡ first ∷ [] → goals ≡ [] → steps ≡ 0 → are_trees 1 nodes ≡ true → Going leads causes accepts (tree_of nodes) (sequent_view first) nodes (reverse (map sequent_view stack)) (map sequent_view goals) steps
 start_turn leads causes accepts nodes first stack goals steps ok e none zero fits =

@@ -3,7 +3,7 @@
 ghost use Rattle.std.specs.Prelude.{◌≡◌, [], OnOk, map, reverse};
 ghost use Rattle.jd_sequent.specs.Steps.{node_view};
 ghost use Rattle.jd_scripts.specs.Machine as machine;
-ghost use Rattle.jd_scripts.specs.Machine.{grown, leaf};
+ghost use Rattle.jd_scripts.specs.Machine.{grown};
 
 use crate::draft::Draft;
 use jd_base::NoMemory;
@@ -76,17 +76,5 @@ pub(crate) fn grow(
 {
     count_child(nodes, open_steps)?;
     nodes.push(node)?;
-    Ok(())
-}
-
-/// Adds an open leaf, a child of the innermost open step. Made at its place, it costs no moves of a node as large as a step's.
-pub(crate) fn grow_leaf(nodes: &mut Vec<ScriptNode>, open_steps: &[usize]) -> Result<(), NoMemory>
-    ensures { OnOk result (map node_view nodes.new.items ≡ grown (map node_view nodes.old.items) (reverse open_steps.now) leaf) }
-{
-    count_child(nodes, open_steps)?;
-    nodes.push(ScriptNode {
-        step: None,
-        children: 0,
-    })?;
     Ok(())
 }

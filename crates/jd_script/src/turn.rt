@@ -17,7 +17,7 @@ ghost use Rattle.jd_script.specs.PartViews.{part_view};
 ghost use Rattle.jd_script.specs.TurnViews.{limits_view, context_of, nodes_of, places_of, turn_at, part_turn};
 
 use crate::draft::{Draft, Part, no_step};
-use crate::nodes::{OpenProof, grow, grow_leaf};
+use crate::nodes::{OpenProof, grow};
 use crate::part::part_step;
 use crate::stop::{Limits, PartTurn, Stop};
 use jd_base::NoMemory;
@@ -52,7 +52,11 @@ fn leaf(proof: &mut OpenProof) -> Result<PartTurn, NoMemory>
         ≡ Ok (machine.InProof (context_of done proof.old) (machine.after_tree (places_of proof.old))
         (machine.grown (nodes_of proof.old) (places_of proof.old) machine.leaf) (places_of proof.old) proof.old.steps)) }
 {
-    grow_leaf(&mut proof.nodes, &proof.open_steps)?;
+    let node = ScriptNode {
+        step: None,
+        children: 0,
+    };
+    grow(&mut proof.nodes, &proof.open_steps, node)?;
     Ok(PartTurn::Goes(after_tree(&proof.open_steps)))
 }
 
@@ -108,7 +112,7 @@ fn begun(alloc: Global, proof: &mut OpenProof) -> Result<PartTurn, NoMemory>
     let at = proof.nodes.len();
     let step = mem::replace(&mut proof.draft.step, no_step(alloc));
     let node = ScriptNode {
-        step: Some(step),
+        step: Some(Box::new(alloc, step)?),
         children: 0,
     };
     grow(&mut proof.nodes, &proof.open_steps, node)?;

@@ -1,5 +1,6 @@
 -- Plain steps and script nodes, and their views.
 use Rattle.std.specs.Prelude.{option_map, map}
+use Rattle.std.specs.Global.{Box}
 use Rattle.jd_syntax.specs.Sxs.{sx_view}
 use Rattle.jd_model.specs.Sequents.{place_view}
 use Rattle.jd_sequent.specs.Trees.{PlainStep, PlainNode}
@@ -14,5 +15,9 @@ step_view s = record {
   insts = map (λ p. (p.0.items, sx_view p.1)) s.insts.items;
 }
 
+-- the step of a node, which stands in a box
+abbrev pub boxed_view : Box Step → PlainStep
+boxed_view b = step_view b.value
+
 abbrev pub node_view : ScriptNode → PlainNode
-node_view n = record { step = option_map step_view n.step; children = n.children }
+node_view n = record { step = option_map boxed_view n.step; children = n.children }

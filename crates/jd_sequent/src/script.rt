@@ -21,8 +21,8 @@ pub struct Step {
 /// A node of a script in preorder: a step with its number of children, or an open leaf.
 #[derive(Debug, Drop)]
 pub struct ScriptNode {
-    /// The step; `None` for an open leaf.
-    pub step: Option<Step>,
+    /// The step, in a box so that an open leaf is small; `None` for an open leaf.
+    pub step: Option<Box<Step>>,
     /// How many children follow.
     pub children: u32,
 }

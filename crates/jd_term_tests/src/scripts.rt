@@ -106,6 +106,7 @@ fn nodes(alloc: Global, told: &[(bool, u32)]) -> Result<Vec<ScriptNode>, NoMemor
             assumes: Vec::new(alloc),
             insts: Vec::new(alloc),
         };
+        let step = Box::new(alloc, step)?;
         nodes.push(ScriptNode {
             step: if *has_step { Some(step) } else { None },
             children: *children,

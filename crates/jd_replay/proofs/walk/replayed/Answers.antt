@@ -1,9 +1,9 @@
 use Rattle.std.proofs.Common.{Bool, false, ◌∙◌, ◌++◌, [], ◌∷◌, ◌<◌, ap, arith, option_map, length, sym, ◌==◌, ◌≡◌, true, ℕ, refl}
 use Rattle.std.proofs.lemmas.Bool.Decides.{nat_tests}
-use Rattle.jd_sequent.specs.Steps.{step_view}
+use Rattle.jd_sequent.specs.Steps.{step_view, boxed_view}
 use Rattle.jd_sequent.specs.Obligations.{task_view}
 use Rattle.jd_replay.proofs.Refused.{refused_turn}
-use Rattle.jd_replay.proofs.Turns.{start_turn, at_turn, stack_some, open_turn, step_turn, miscounted_turn, end_turn, nothing_left}
+use Rattle.jd_replay.proofs.Turns.{boxed_step, start_turn, at_turn, stack_some, open_turn, step_turn, miscounted_turn, end_turn, nothing_left}
 use Rattle.jd_replay.proofs.Going.{each_of_all}
 use Rattle.jd_replay.proofs.walk.replayed.Goals as goal
 
@@ -24,26 +24,26 @@ pub loop-i-preserved-in_default-step : goal.loop-i-preserved-in_default-step
 loop-i-preserved-in_default-step g c =
     let now = at_turn _ _ _ _ _ _ _ _ c.node-item.result _ _ c.in-Some.sequent _ _ c.deref-node-items.ensures.value c.node-item.is c.loop-i-test.true c.in-Some.ensures.items c.loop-i.invariant.going in
     record {
-      going = open_turn _ _ _ _ _ _ _ c.in-Some.sequent _ _ _ _ (ap (option_map step_view) c.in_default-step.is) c.in_ok-push-2.ensures.items now;
+      going = open_turn _ _ _ _ _ _ _ c.in-Some.sequent _ _ _ _ (ap (option_map boxed_view) c.in_default-step.is) c.in_ok-push-2.ensures.items now;
       below = omega arith;
     }
 
 pub returns-in-Err : goal.returns-in-Err
 returns-in-Err g c =
     let now = at_turn _ _ _ _ _ _ _ _ c.node-item.result _ _ c.in-Some.sequent _ _ c.deref-node-items.ensures.value c.node-item.is c.loop-i-test.true c.in-Some.ensures.items c.loop-i.invariant.going in
-    refused_turn _ _ _ _ _ _ _ (step_view c.in-Some-step.step) _ _ _ _ c.in-Err.bad c.refused.result (ap (option_map step_view) c.in-Some-step.is) c.in-Err.ensures c.refused.ensures now
+    refused_turn _ _ _ _ _ _ _ (step_view c.deref.result.now) _ _ _ _ c.in-Err.bad c.refused.result (boxed_step _ _ _ c.in-Some-step.is c.deref.ensures) c.in-Err.ensures c.refused.ensures now
 
 pub returns-then-count-node : goal.returns-then-count-node
 returns-then-count-node g c =
     let now = at_turn _ _ _ _ _ _ _ _ c.node-item.result _ _ c.in-Some.sequent _ _ c.deref-node-items.ensures.value c.node-item.is c.loop-i-test.true c.in-Some.ensures.items c.loop-i.invariant.going in
     let many : c.len-count.result ≡ length c.in-Ok.premises.items = omega (arith, c.in-Ok.premises.ok.0, c.len-count.ensures) in
-    miscounted_turn _ _ _ _ _ _ _ (step_view c.in-Some-step.step) _ c.in-Ok.premises.items _ _ _ _ (ap (option_map step_view) c.in-Some-step.is) c.in-Ok.ensures many (λ e. omega (arith, e, c.if-count-node.true)) now
+    miscounted_turn _ _ _ _ _ _ _ (step_view c.deref.result.now) _ c.in-Ok.premises.items _ _ _ _ (boxed_step _ _ _ c.in-Some-step.is c.deref.ensures) c.in-Ok.ensures many (λ e. omega (arith, e, c.if-count-node.true)) now
 
 pub loop-i-preserved : goal.loop-i-preserved
 loop-i-preserved g c =
     let now = at_turn _ _ _ _ _ _ _ _ c.node-item.result _ _ c.in-Some.sequent _ _ c.deref-node-items.ensures.value c.node-item.is c.loop-i-test.true c.in-Some.ensures.items c.loop-i.invariant.going in
     record {
-      going = step_turn _ _ _ _ _ _ _ (step_view c.in-Some-step.step) _ c.in-Ok.premises.items _ _ _ _ _ (ap (option_map step_view) c.in-Some-step.is) c.in-Ok.ensures (each_of_all _ _ (g.met.R.RuleSet.keeps c.args.rules.now (task_view c.args.task.now) _ _ _ now.taken.0 c.in-Ok.ensures.0)) (omega (arith, c.in-Ok.premises.ok.0, c.len-count.ensures, c.if-count-node.false)) c.in_ok-push_premises.ensures refl now;
+      going = step_turn _ _ _ _ _ _ _ (step_view c.deref.result.now) _ c.in-Ok.premises.items _ _ _ _ _ (boxed_step _ _ _ c.in-Some-step.is c.deref.ensures) c.in-Ok.ensures (each_of_all _ _ (g.met.R.RuleSet.keeps c.args.rules.now (task_view c.args.task.now) _ _ _ now.taken.0 c.in-Ok.ensures.0)) (omega (arith, c.in-Ok.premises.ok.0, c.len-count.ensures, c.if-count-node.false)) c.in_ok-push_premises.ensures refl now;
       below = omega arith;
     }
 
