@@ -113,6 +113,14 @@ first_stops limit ps d s lt e = sym (stuck_there limit ps 0 d s _ lt (sym e) ref
 
 -- ---- several terminals at once
 
+-- what all of the terminals lead to, they lead to as so many
+pub to_the_end : (limit : ℕ) (ps : List Placed) (s to : State) → 0 < length ps → reader.run (capped_units limit) (texts ps) s ≡ Some to → LeadsTo limit (texts ps) s to (length ps)
+to_the_end limit ps s to some e = record {
+  some = some;
+  within = omega (arith, length-map ps placed_view);
+  leads = e ∙ at_the_end limit ps (length ps) to _ (omega arith) refl ∙ sym (ap (λ (ts : Tokens). reader.run (capped_units limit) ts to) (drop-map placed_view (length ps) ps));
+}
+
 pub leads_on : (limit : ℕ) (ps : List Placed) (i n : ℕ) (s to : State) (r : Option State) → LeadsTo limit (texts (rest ps i)) s to n →
     reader.run (capped_units limit) (texts (rest ps i)) s ≡ r → reader.run (capped_units limit) (texts (rest ps (i + n))) to ≡ r
 leads_on limit ps i n s to r h e =

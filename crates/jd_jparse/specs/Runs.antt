@@ -33,7 +33,6 @@ pub record LeadsTo (limit : ℕ) (ts : Tokens) (from to : State) (n : ℕ) : Typ
 -- how far the terminals are read from the state on
 abbrev pub Turned : ℕ → Tokens → State → Turn → Type 0
 Turned limit ts s (turns.Goes f n high) = LeadsTo limit ts s (file_view f) n
-Turned limit ts s (turns.Ends f high) = reader.run (capped_units limit) ts s ≡ Some (file_view f)
 Turned limit ts s (turns.Stops at) = reader.run (capped_units limit) ts s ≡ None
 
 -- the same of the states of a body, inside whichever routine

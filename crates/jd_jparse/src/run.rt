@@ -45,7 +45,6 @@ fn run(alloc: Global, limit: u16, placed: &[Placed<'_>]) -> Result<Reached, NoMe
                 number += more;
                 high = known;
             }
-            Turn::Ends(last, known) => return Ok(Reached::Whole(last, known)),
             Turn::Stops(at) => return Ok(Reached::Stops(at)),
         }
     }

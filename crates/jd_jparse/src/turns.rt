@@ -31,8 +31,6 @@ pub enum BodyTurn {
 pub enum Turn {
     /// Up to a state, with the number of terminals before it, and the first place where something is too high.
     Goes(FileReading, usize, Option<u32>),
-    /// To their end.
-    Ends(FileReading, Option<u32>),
     /// Up to a token that no file has there.
     Stops(u32),
 }
@@ -92,7 +90,7 @@ fn read_body(
     Ok(BodyTurn::Inside(body, high))
 }
 
-// A body and the end of its routine.
+// A body and the end of its routine, or the body up to the end of the terminals.
 fn in_body(
     alloc: Global,
     limit: u16,
@@ -101,6 +99,7 @@ fn in_body(
     high: Option<u32>,
     placed: &[Placed<'_>],
 ) -> Result<Turn, NoMemory>
+    requires { 0 < length placed.now }
     ensures { IfOk result (λ t. Turned limit (map placed_view placed.now) (file_view (FileReading.InBody closed body)) t) }
 {
     match read_body(alloc, limit, body, high, placed)? {
@@ -109,7 +108,10 @@ fn in_body(
             let high = first_high(high, is_high(&next), at);
             Ok(Turn::Goes(next, number, high))
         }
-        BodyTurn::Inside(inside, high) => Ok(Turn::Ends(FileReading::InBody(closed, inside), high)),
+        BodyTurn::Inside(inside, high) => {
+            let unfinished = FileReading::InBody(closed, inside);
+            Ok(Turn::Goes(unfinished, placed.len(), high))
+        }
         BodyTurn::Stops(at) => Ok(Turn::Stops(at)),
     }
 }

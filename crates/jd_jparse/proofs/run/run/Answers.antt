@@ -26,11 +26,6 @@ loop-number-smaller c =
     turned_rest c.args.limit c.args.placed.now c.loop-number.number (file_view c.loop-number.reading) _ _ c.in-Goes.is c.in_ok-next.ensures in
     turn_closer c.args.limit c.args.placed.now c.loop-number.number c.in-Goes.more (file_view c.loop-number.reading) (file_view c.in-Goes.next) turned c.loop-number-test.true
 
-pub returns-in-Ends : goal.returns-in-Ends
-returns-in-Ends c =
-    sym (turned_rest c.args.limit c.args.placed.now c.loop-number.number (file_view c.loop-number.reading) _ _ c.in-Ends.is c.in_ok-next.ensures)
-    ∙ c.loop-number.invariant.leads
-
 pub returns-in-Stops : goal.returns-in-Stops
 returns-in-Stops c =
     sym (turned_rest c.args.limit c.args.placed.now c.loop-number.number (file_view c.loop-number.reading) _ _ c.in-Stops.is c.in_ok-next.ensures)
