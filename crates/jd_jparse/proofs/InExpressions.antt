@@ -2,7 +2,6 @@
 use Rattle.std.proofs.Common.{◌≡◌, ℕ, ◌+◌, ◌<◌, List, length, get_or, false, Option, MatchOption, option_map, refl, subst}
 use Rattle.jd_jgrammar.specs.StatementReader as body
 use Rattle.jd_jtokens.specs.declared.placed.Placed.{Placed}
-use Rattle.jd_jtokens.specs.Placed.{placed_view}
 use Rattle.jd_jtokens.specs.Terminals.{terminal_view}
 use Rattle.jd_jtrees.specs.CappedTrees.{Capped, CappedList}
 use Rattle.jd_jtrees.specs.CappedBodies.{CappedNames, capped_statements}

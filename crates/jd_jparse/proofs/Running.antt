@@ -1,5 +1,5 @@
 -- Turns of the loop that reads a file's terminals: what is left leads on to what all of them lead to.
-use Rattle.std.proofs.Common.{◌≡◌, ℕ, ◌+◌, ◌-◌, ◌<◌, ◌≤◌, List, ◌∷◌, length, length-drop, map, drop, take, get_or, Bool, false, Option, Some, None, MatchOption, is_some, option_and_then, option_map, refl, sym, ap, subst, true≢false, arith, ◌∙◌}
+use Rattle.std.proofs.Common.{◌≡◌, ℕ, ◌+◌, ◌-◌, ◌<◌, ◌≤◌, List, ◌∷◌, length, length-drop, map, drop, take, get_or, false, Option, Some, None, MatchOption, is_some, option_and_then, option_map, refl, sym, ap, subst, true≢false, arith, ◌∙◌}
 use Rattle.std.proofs.lemmas.List.{at_drop_all, drop-drop, drop-map, drop_more, length-map, take_all}
 use Rattle.jd_jgrammar.specs.Tokens.{Token, Tokens}
 use Rattle.jd_jgrammar.specs.StatementReader as body
