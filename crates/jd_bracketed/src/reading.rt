@@ -1,6 +1,6 @@
 //! Bracketed expressions read token by token, with a stack of the lists that are open.
 
-ghost use Rattle.std.specs.Prelude.{◌≡◌, ◌<◌, ℕ};
+ghost use Rattle.std.specs.Prelude.{◌<◌};
 ghost use Rattle.jd_syntax.specs.Sxs.{sx_view};
 ghost use Rattle.jd_bracketed.specs.Readings as plain;
 ghost use Rattle.jd_bracketed.specs.Readings.{step};

@@ -1,4 +1,4 @@
-ghost use Rattle.std.specs.Prelude.{◌≡◌, ◌≤◌, length};
+ghost use Rattle.std.specs.Prelude.{◌≤◌, length};
 ghost use Rattle.jd_bracketed.specs.Tokens.{tokens_of};
 ghost use Rattle.jd_bracketed.specs.Answers.{Answers, most_levels};
 

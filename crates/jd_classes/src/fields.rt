@@ -1,6 +1,6 @@
 //! The fields of an object of a class: its own and those of its ancestors.
 
-ghost use Rattle.std.specs.Prelude.{◌≡◌, ◌<◌, ◌++◌, All, List, length, map, IfOk, OnOk};
+ghost use Rattle.std.specs.Prelude.{◌≡◌, ◌<◌, All, List, length, map, IfOk};
 ghost use Rattle.jd_ancestry.specs.Ancestors.{AreNodes};
 ghost use Rattle.jd_ancestry.specs.Depths.{IsDepths};
 ghost use Rattle.jd_jinfos.specs.Views.{field_number};

@@ -1,12 +1,12 @@
 //! What is known of a program's classes, apart from their declarations.
 
-ghost use Rattle.std.specs.Prelude.{◌≡◌, ◌+◌, ◌<◌, ◌≤◌, ◌^◌, All, IfOk, IfErr, OnOk, map, length};
+ghost use Rattle.std.specs.Prelude.{◌≡◌, ◌<◌, ◌≤◌, All, IfOk, IfErr, map, length};
 ghost use Rattle.jd_ancestry.specs.Depths.{IsDepths};
 ghost use Rattle.jd_jclasses.specs.Classes.{class_names, declared_classes, parents as parents_of_classes};
 ghost use Rattle.jd_jclasses.specs.Members.{declared_members};
 ghost use Rattle.jd_jclasses.specs.Methods.{AreFamilies, routines};
 ghost use Rattle.jd_jclasses.specs.Numbers.{AreNumbers};
-ghost use Rattle.jd_jclasses.specs.Refusals.{ClassesStand, AreClasses, SameName};
+ghost use Rattle.jd_jclasses.specs.Refusals.{AreClasses, SameName};
 ghost use Rattle.jd_jheads.specs.Heads.{names_of};
 ghost use Rattle.jd_jlists.specs.Views.{member_of_view, HasFewMembers};
 ghost use Rattle.jd_jnumbers.specs.Numbered.{AreNames, count_of, texts_of};

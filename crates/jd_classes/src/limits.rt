@@ -1,6 +1,6 @@
 //! How many classes and methods a program has.
 
-ghost use Rattle.std.specs.Prelude.{◌≡◌, ◌≤◌, IfErr, OnOk, map, length, filter};
+ghost use Rattle.std.specs.Prelude.{◌≡◌, IfErr, OnOk, map, length, filter};
 ghost use Rattle.jd_jclasses.specs.Classes.{parents};
 ghost use Rattle.jd_jclasses.specs.Members.{declared_members, is_method};
 ghost use Rattle.jd_jclasses.specs.Refusals.{ClassesStand, MembersStand, AreClasses};

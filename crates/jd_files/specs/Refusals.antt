@@ -3,7 +3,6 @@ use Rattle.std.specs.Prelude.{◌≡◌, ℕ, ◌<◌, ⊤, List, length, Option
 use Rattle.jd_syntax.specs.JavaTrees.{JavaUnit}
 use Rattle.jd_source.specs.Sources.{Reason, SameReason, reason_of}
 use Rattle.jd_jclasses.specs.Refusals as classes
-use Rattle.jd_classes.specs.Refusals.{Refuses}
 use Rattle.jd_classes.specs.declared.refusal.ClassRefusal.{ClassRefusal}
 use Rattle.jd_classes.specs.declared.refusal.ClassRefusal.TheVariants as code
 use Rattle.jd_files.specs.Files.{AreTrees, IsRefusedFile}

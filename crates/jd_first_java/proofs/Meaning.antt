@@ -12,7 +12,7 @@ use Rattle.jd_lexemes.specs.declared.scan.Lexeme as code
 use Rattle.jd_lexemes.proofs.Spelling.{one_spelling}
 use Rattle.jd_first_java.specs.Alphabet.{is_name_byte, java_class}
 use Rattle.jd_first_java.specs.Programs as plain
-use Rattle.jd_first_java.specs.Programs.{Operand, Named, Condition, Statement, Declare, Assign, ReturnValue, Program, operand_text, written, prelude_classes, IsIdentifier, IsValue, IsOperand, IsRequired, IsEnsured, AreStatements, AreParameters, IsProgram}
+use Rattle.jd_first_java.specs.Programs.{Operand, Named, Condition, Statement, Declare, Assign, ReturnValue, Program, operand_text, written, prelude_classes, IsIdentifier, IsValue, IsOperand, IsRequired, IsEnsured, AreStatements, IsProgram}
 use Rattle.jd_first_java.specs.Grammar.{AssignIdentifiers, IsGrammatical, spell_condition, spell_statement, spell, IsConditionOf, AreNames, AreFew, texts_of, condition_words, statement_words, program_words}
 use Rattle.jd_first_java.specs.Reads.{Reads, Answers, program_view}
 use Rattle.jd_first_java.specs.declared.syntax.Program as syntax

@@ -1,4 +1,4 @@
-ghost use Rattle.std.specs.Prelude.{◌≡◌, ◌++◌, ◌∷◌, [], IfOk, OnOk, map};
+ghost use Rattle.std.specs.Prelude.{◌≡◌, ◌++◌, [], IfOk, OnOk, map};
 ghost use Rattle.jd_term.specs.TermViews.{term_view};
 ghost use Rattle.jd_term.specs.Formulas.{formula_view};
 ghost use Rattle.jd_first_java.specs.Reads.{operand_view, condition_view, program_view};

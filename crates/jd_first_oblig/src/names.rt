@@ -1,4 +1,4 @@
-ghost use Rattle.std.specs.Prelude.{◌≡◌, ◌++◌, IfOk};
+ghost use Rattle.std.specs.Prelude.{◌≡◌, IfOk};
 ghost use Rattle.jd_syntax.specs.Names.{var_view};
 ghost use Rattle.jd_term.specs.TermViews.{const_view};
 ghost use Rattle.jd_first_oblig.specs.Special.{printed_name, variable_of, parameter_constant};

@@ -1,11 +1,7 @@
-ghost use Rattle.std.specs.Prelude.{◌≡◌, true, ◌∷◌, [], IfOk, map};
-ghost use Rattle.jd_base.specs.declared.sort.Sort.TheVariants.{Bool as BoolSort};
-ghost use Rattle.jd_syntax.specs.Codes.{OfClass, Then, Done, stmts_of};
+ghost use Rattle.std.specs.Prelude.{◌≡◌, IfOk, map};
+ghost use Rattle.jd_syntax.specs.Codes.{Then, Done, stmts_of};
 ghost use Rattle.jd_syntax.specs.CodeViews.{stmt_view, code_view};
-ghost use Rattle.jd_syntax.specs.Names.{var_view};
-ghost use Rattle.jd_term.specs.Terms.{ProgramVariable, Select, CreatedField, Boolean};
-ghost use Rattle.jd_term.specs.TermViews.{term_view};
-ghost use Rattle.jd_term.specs.Formulas.{formula_view, And as Both, Implies as Implied, Not as Negated, Equal as SameTerm};
+ghost use Rattle.jd_term.specs.Formulas.{formula_view, And as Both, Implies as Implied, Not as Negated};
 ghost use Rattle.jd_model.specs.Conjunctions.{conjunction};
 
 use jd_base::NoMemory;

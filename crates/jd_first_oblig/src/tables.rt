@@ -1,4 +1,4 @@
-ghost use Rattle.std.specs.Prelude.{◌≡◌, ◌∷◌, [], IfOk};
+ghost use Rattle.std.specs.Prelude.{◌≡◌, IfOk};
 ghost use Rattle.jd_model.specs.ContractForms.{case_view, body_view, contracts_view};
 ghost use Rattle.jd_first_java.specs.Reads.{program_view};
 ghost use Rattle.jd_first_oblig.specs.Obligations.{AreLiteralsInRange, case_of, body_of, contracts_of};

@@ -1,9 +1,9 @@
-ghost use Rattle.std.specs.Prelude.{◌≡◌, IfOk, map, option_map, None, Some};
+ghost use Rattle.std.specs.Prelude.{◌≡◌, IfOk, option_map, None, Some};
 ghost use Rattle.jd_syntax.specs.Names.{var_view};
-ghost use Rattle.jd_syntax.specs.Codes.{stmts_of, Done, Set};
+ghost use Rattle.jd_syntax.specs.Codes.{Done, Set};
 ghost use Rattle.jd_syntax.specs.CodeViews.{expr_view, stmt_view, code_view};
 ghost use Rattle.jd_term.specs.TermViews.{term_view};
-ghost use Rattle.jd_model.specs.Contexts.{chain, one};
+ghost use Rattle.jd_model.specs.Contexts.{one};
 ghost use Rattle.jd_first_steps.specs.Rewrites.{simple_term};
 ghost use Rattle.jd_first_rules.specs.Focus.{at_stmt, at_focus, within, behind_first, followed, in_block, in_frame, in_catch, in_finally, return_effect, nothing_effect};
 ghost use Rattle.jd_first_rules.specs.Effects.{effect_view};

@@ -1,5 +1,5 @@
-ghost use Rattle.std.specs.Prelude.{◌≡◌, ◌∷◌, IfOk, OnOk, ◌++◌, map, drop};
-ghost use Rattle.jd_syntax.specs.Codes.{Done, Then, stmts_of};
+ghost use Rattle.std.specs.Prelude.{◌≡◌, IfOk, OnOk, ◌++◌, map, drop};
+ghost use Rattle.jd_syntax.specs.Codes.{Done};
 ghost use Rattle.jd_syntax.specs.CodeViews.{stmt_view, code_view};
 ghost use Rattle.jd_model.specs.Contexts.{chain, one};
 ghost use Rattle.jd_first_rules.specs.Focus.{behind_first};

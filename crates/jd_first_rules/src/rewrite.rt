@@ -1,10 +1,10 @@
-ghost use Rattle.std.specs.Prelude.{◌≡◌, IfOk, option_map, true};
+ghost use Rattle.std.specs.Prelude.{◌≡◌, IfOk, option_map};
 ghost use Rattle.jd_term.specs.TermViews.{term_view};
 ghost use Rattle.jd_term.specs.Formulas.{formula_view};
 ghost use Rattle.jd_first_rules.specs.Focus.{executed, emptied, effected, equal_sides};
 ghost use Rattle.jd_first_rules.specs.Effects.{effect_view};
 ghost use Rattle.jd_first_rules.specs.Results.{IsRewriting};
-ghost use Rattle.jd_first_steps.specs.declared.rules.FirstRule.TheVariants.{EqRefl as Reflexivity, EmptyCode as Emptiness, Simplify as Simplification};
+ghost use Rattle.jd_first_steps.specs.declared.rules.FirstRule.TheVariants.{EqRefl as Reflexivity, Simplify as Simplification};
 
 use crate::focus::{Effect, focused};
 use jd_base::NoMemory;

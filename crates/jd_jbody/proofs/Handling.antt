@@ -1,5 +1,5 @@
 -- What a token makes of the head of a handler, the reader of bodies makes of it.
-use Rattle.std.proofs.Common.{◌≡◌, ℕ, List, Option, Some, None, refl, sym, ap, ◌∙◌}
+use Rattle.std.proofs.Common.{◌≡◌, ℕ, Option, Some, None, refl, sym, ap, ◌∙◌}
 use Rattle.jd_jgrammar.specs.Tokens.{Token, Word, OpenParen, CloseParen, Other, FinalWord}
 use Rattle.jd_jgrammar.specs.Statements.{CatchHead}
 use Rattle.jd_jgrammar.specs.StatementBuilders.{BlockOf}

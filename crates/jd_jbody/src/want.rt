@@ -1,13 +1,13 @@
 //! Where a statement has to come.
 
-ghost use Rattle.std.specs.Prelude.{◌≡◌, ◌∷◌, IfOk, Some, None, option_map};
+ghost use Rattle.std.specs.Prelude.{◌≡◌, IfOk, Some, None, option_map};
 ghost use Rattle.jd_jgrammar.specs.StatementReader as reader;
 ghost use Rattle.jd_jgrammar.specs.Tokens.{Other};
 ghost use Rattle.jd_jtokens.specs.Terminals.{mark_view, terminal_view};
 ghost use Rattle.jd_jtrees.specs.CappedBodies.{capped_statements};
 ghost use Rattle.jd_jexpr.specs.Views.{type_state_view};
 ghost use Rattle.jd_jstatements.specs.Views.{annotation_view};
-ghost use Rattle.jd_jstates.specs.Views.{body_view, declaration_view, frame_view, stack_view};
+ghost use Rattle.jd_jstates.specs.Views.{body_view, declaration_view, stack_view};
 
 use crate::blocks::{end_block, super_wanted};
 use crate::expressions::start_expression;

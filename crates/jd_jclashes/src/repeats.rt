@@ -1,6 +1,6 @@
 //! Members of which a class may declare one alone.
 
-ghost use Rattle.std.specs.Prelude.{◌≡◌, ◌≤◌, ◌<◌, ℕ, List, length, map, IfOk, IfSome};
+ghost use Rattle.std.specs.Prelude.{◌≡◌, ◌≤◌, ◌<◌, List, length, map, IfOk, IfSome};
 ghost use Rattle.std.specs.Bool.{Decides};
 ghost use Rattle.jd_syntax.specs.JavaTrees.{JavaUnit};
 ghost use Rattle.jd_jclasses.specs.Members.{declared_members};

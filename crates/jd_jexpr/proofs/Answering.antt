@@ -1,6 +1,6 @@
 -- What an answer says, by the next state and by what the expression would be if it ended.
 use Rattle.std.proofs.Common.{◌≡◌, ℕ, Bool, true, false, cond, IsTrue, Option, Some, None, refl, sym, ap, ◌∙◌}
-use Rattle.jd_jgrammar.specs.Tokens.{Token, CloseParen, CloseBracket, Comma, Other}
+use Rattle.jd_jgrammar.specs.Tokens.{Token, CloseParen, Comma, Other}
 use Rattle.jd_jgrammar.specs.ExpressionReader.{State, begins_unsigned, step_with, ended}
 use Rattle.jd_jtrees.specs.CappedTrees.{Capped, CappedList, capped_trees}
 use Rattle.jd_jexpr.specs.declared.reading.Advance.{Advance}

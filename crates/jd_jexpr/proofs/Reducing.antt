@@ -1,5 +1,5 @@
 -- One turn of the reader's `reduce`.
-use Rattle.std.proofs.Common.{◌≡◌, ℕ, suc, ◌<◌, Bool, true, false, List, [], ◌∷◌, length, Option, Some, None, refl, sym, ap, true≢false, ◌∙◌, arith}
+use Rattle.std.proofs.Common.{◌≡◌, ℕ, ◌<◌, true, [], ◌∷◌, length, Option, Some, refl, sym, ap, true≢false, ◌∙◌, arith}
 use Rattle.jd_jgrammar.specs.ExpressionReader as reader
 use Rattle.jd_jtrees.specs.CappedTrees.{Capped, capped_trees}
 use Rattle.jd_jexpr.specs.declared.values.Value.{Value}

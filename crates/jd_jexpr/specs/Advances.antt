@@ -1,5 +1,5 @@
 -- One token more: the expression goes on, or it ended before that token, or neither is so.
-use Rattle.std.specs.Prelude.{◌≡◌, ℕ, List, [], ◌∷◌, Bool, true, false, cond, IsTrue, Option, Some, None}
+use Rattle.std.specs.Prelude.{◌≡◌, ℕ, List, [], Bool, true, false, cond, IsTrue, Option, Some, None}
 use Rattle.jd_jgrammar.specs.Tokens.{Token, CloseParen, Comma, Other, Semicolon}
 use Rattle.jd_jgrammar.specs.Builders.{Own}
 use Rattle.jd_jgrammar.specs.ExpressionReader.{State, Named, step_with, ended}

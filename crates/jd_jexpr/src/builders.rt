@@ -3,7 +3,6 @@ ghost use Rattle.jd_syntax.specs.JavaTrees.{java_view};
 ghost use Rattle.jd_jgrammar.specs.Expressions as expressions;
 ghost use Rattle.jd_jgrammar.specs.Builders.{Constructor, Method, On, Own};
 ghost use Rattle.jd_jtokens.specs.Terminals.{assignment_view, count_view, literal_view, operator_view};
-ghost use Rattle.jd_jtrees.specs.CappedTrees as capped;
 ghost use Rattle.jd_jtrees.specs.CappedTrees.{capped_trees};
 ghost use Rattle.jd_jexpr.specs.Views.{access_view, callee_view, kind_view, list_view, prefix_view, type_view, value_view};
 

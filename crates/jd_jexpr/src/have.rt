@@ -1,4 +1,4 @@
-ghost use Rattle.std.specs.Prelude.{◌≡◌, IfOk, option_map, option_and_then};
+ghost use Rattle.std.specs.Prelude.{◌≡◌, IfOk, option_map};
 ghost use Rattle.jd_jgrammar.specs.Tokens as grammar;
 ghost use Rattle.jd_jgrammar.specs.ExpressionReader as reader;
 ghost use Rattle.jd_jtokens.specs.Terminals.{terminal_view};

@@ -25,6 +25,6 @@ pub use forms::{begins_at, written_type};
 pub use kinds::{has_elements, has_members, is_effect, is_target};
 pub use limits::{higher, over, within};
 pub use reading::{Advance, Frame, Reading, Top, TypeHole};
-pub use step::{advance, finish, lone_name, start};
+pub use step::{advance, lone_name, start};
 pub use types::{TypeState, TypeTokens, ended_type, is_reference, more_type, start_type};
 pub use values::{Access, Callee, Kind, Prefix, Value, ValueList};

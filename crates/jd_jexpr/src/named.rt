@@ -1,4 +1,4 @@
-ghost use Rattle.std.specs.Prelude.{◌≡◌, ◌∷◌, IfOk, Some, None, option_map};
+ghost use Rattle.std.specs.Prelude.{◌≡◌, ◌∷◌, IfOk, Some, None};
 ghost use Rattle.jd_jgrammar.specs.Tokens as grammar;
 ghost use Rattle.jd_jgrammar.specs.ExpressionReader as reader;
 ghost use Rattle.jd_jtokens.specs.Terminals.{terminal_view};

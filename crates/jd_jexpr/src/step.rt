@@ -2,16 +2,14 @@ ghost use Rattle.std.specs.Prelude.{◌≡◌, [], IfOk, None, option_map};
 ghost use Rattle.jd_jgrammar.specs.ExpressionReader as reader;
 ghost use Rattle.jd_jtokens.specs.Terminals.{terminal_view};
 ghost use Rattle.jd_jtrees.specs.CappedTrees.{capped_trees};
-ghost use Rattle.jd_jexpr.specs.Views.{reading_view, stack_view, state_of, type_view, value_view};
+ghost use Rattle.jd_jexpr.specs.Views.{reading_view, stack_view, state_of};
 ghost use Rattle.jd_jexpr.specs.Advances.{Advances, answer, answer_view, going, lone_name_of};
 
-use crate::builders::get;
-use crate::have::{alone, had};
-use crate::named::{in_parentheses, named, typed};
+use crate::have::had;
+use crate::named::{named, typed};
 use crate::parts::{after_new, in_type, member, new_ints, new_object, type_wanted};
 use crate::reading::{Advance, Frame, Reading, Top};
-use crate::types::TypeTokens;
-use crate::values::{Access, Value};
+use crate::values::Access;
 use crate::want::wanted;
 use jd_base::NoMemory;
 use jd_jtokens::Terminal;
@@ -117,48 +115,6 @@ pub fn start(alloc: Global) -> Reading
     Reading {
         top: Top::Want,
         frames: Vec::new(alloc),
-    }
-}
-
-// A state is given up.
-fn discard(_top: Top) {}
-
-// The expression behind `( T )`, which then was a name in parentheses.
-fn typed_ended(
-    alloc: Global,
-    limit: u16,
-    start: u32,
-    ty: TypeTokens,
-    end: u32,
-    frames: Vec<Frame>,
-) -> Result<Option<Value>, NoMemory>
-    ensures { IfOk result (λ o. option_map value_view o ≡ reader.ended_typed (capped_trees limit) start (type_view ty) end (stack_view frames.items)) }
-{
-    match ty {
-        TypeTokens::Named(name, place) => {
-            let value = in_parentheses(alloc, limit, start, name, place)?;
-            alone(alloc, limit, value, frames)
-        }
-        TypeTokens::Int(_) | TypeTokens::Boolean(_) | TypeTokens::Array(_, _, _) => Ok(None),
-    }
-}
-
-/// The expression, where the tokens end here.
-pub fn finish(alloc: Global, limit: u16, reading: Reading) -> Result<Option<Value>, NoMemory>
-    ensures { IfOk result (λ o. option_map value_view o ≡ reader.ended (capped_trees limit) (reading_view reading)) }
-{
-    let Reading { top, frames } = reading;
-    match top {
-        Top::Have(value) => alone(alloc, limit, value, frames),
-        Top::Named(access) => {
-            let value = get(alloc, limit, access)?;
-            alone(alloc, limit, value, frames)
-        }
-        Top::Typed(start, ty, end) => typed_ended(alloc, limit, start, ty, end, frames),
-        other => {
-            discard(other);
-            Ok(None)
-        }
     }
 }
 

@@ -1,6 +1,6 @@
 ghost use Rattle.std.specs.Prelude.{◌≡◌, ◌∷◌, IfOk, Some, option_map};
 ghost use Rattle.jd_jgrammar.specs.ExpressionReader as reader;
-ghost use Rattle.jd_jtokens.specs.Terminals.{operator_view, terminal_view};
+ghost use Rattle.jd_jtokens.specs.Terminals.{terminal_view};
 ghost use Rattle.jd_jtrees.specs.CappedTrees.{capped_trees};
 ghost use Rattle.jd_jexpr.specs.Views.{callee_view, frame_view, reading_view, stack_view, type_state_view, value_view};
 

@@ -1,4 +1,4 @@
-ghost use Rattle.std.specs.Prelude.{◌≡◌, ◌≤◌, ℕ, List, map, length, slice_index, IfOk};
+ghost use Rattle.std.specs.Prelude.{◌≡◌, ◌≤◌, List, map, length, slice_index, IfOk};
 ghost use Rattle.jd_jclasses.specs.Methods.{AreFamilies, routines};
 ghost use Rattle.jd_jclasses.specs.Refusals.{AreClasses};
 ghost use Rattle.jd_jfamilies.specs.Overridden.{AreOverridden};

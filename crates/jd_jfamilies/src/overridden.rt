@@ -1,6 +1,6 @@
 //! The method that each method of a program overrides nearest.
 
-ghost use Rattle.std.specs.Prelude.{◌≡◌, ◌<◌, ◌≤◌, ℕ, List, map, length, IfOk};
+ghost use Rattle.std.specs.Prelude.{◌≡◌, ◌<◌, ◌≤◌, List, map, length, IfOk};
 ghost use Rattle.jd_jclasses.specs.Members.{is_routine, is_static};
 ghost use Rattle.jd_jfamilies.specs.Listed.{AreListed, AreOfClasses, seen_above};
 ghost use Rattle.jd_jfamilies.specs.Overridden.{AreOverridden};

@@ -1,7 +1,7 @@
 -- What is spelled so is read: bodies of methods and constructors.
 use Rattle.std.proofs.Common.{◌≡◌, Bool, true, false, [], ◌∷◌, Option, Some, option_and_then, refl, sym, ap, ◌∙◌}
 use Rattle.jd_jgrammar.specs.Tokens.{Place}
-use Rattle.jd_jgrammar.specs.Statements.{Statement, Local, Super, Block, Statements, NoStatements, Then, spell_block, spell_statements, is_inside, may_stand, FitBody, IsBody}
+use Rattle.jd_jgrammar.specs.Statements.{Statement, Local, Super, Statements, NoStatements, Then, spell_block, spell_statements, may_stand, FitBody}
 use Rattle.jd_jgrammar.specs.Statements as tree
 use Rattle.jd_jgrammar.specs.StatementBuilders.{BlockOf, Braces, statement_trees, block_tree}
 use Rattle.jd_jgrammar.specs.StatementReader.{Body, InBlock, Want, Ended, start_body, ended, run}

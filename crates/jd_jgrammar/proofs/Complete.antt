@@ -3,7 +3,7 @@ use Rattle.std.proofs.Common.{◌≡◌, ℕ, ◌<◌, ◌≤◌, Bool, true, fa
 use Rattle.std.proofs.lemmas.Bool.{lt-ltb, and_from, or_left, or_right, eq-eqb, cases_lt}
 use Rattle.jd_jgrammar.specs.Tokens.{Operator, Minus, Token, Number, Word, ThisWord, NewWord, Constant, InstanceofWord, Sign, Counts, Assigns, OpenParen, CloseParen, OpenBracket, CloseBracket, Dot, Comma, Question, Colon, Place, Tokens, is_prefix}
 use Rattle.jd_jgrammar.specs.Types.{JavaType, IntType, BooleanType, ArrayType, NamedType, spell_type, is_reference}
-use Rattle.jd_jgrammar.specs.Expressions.{Prefix, Signed, Counting, Expression, Integer, Value, This, Get, Parenthesized, EmptyCall, Call, NewArray, Index, Counted, Prefixed, Cast, Binary, InstanceOf, Conditional, Assigned, Access, Callee, Arguments, First, More, prefix_token, spell, spell_access, spell_callee, spell_arguments, kind_of, int_limit, is_target, level, is_unsigned, is_unsigned_by, fits_prefix, Fits, FitAccess, FitCallee, FitArguments, IsExpression}
+use Rattle.jd_jgrammar.specs.Expressions.{Prefix, Signed, Counting, Expression, Integer, Value, This, Get, Parenthesized, EmptyCall, Call, NewArray, Index, Counted, Prefixed, Cast, Binary, InstanceOf, Conditional, Assigned, Access, Callee, Arguments, First, More, prefix_token, spell, spell_access, spell_callee, spell_arguments, int_limit, level, is_unsigned, is_unsigned_by, fits_prefix, Fits, FitAccess, FitCallee, FitArguments}
 use Rattle.jd_jgrammar.specs.Expressions as tree
 use Rattle.jd_jgrammar.specs.Builders.{CalleeOf, callee_tree, trees}
 use Rattle.jd_jgrammar.specs.ExpressionReader.{InParentheses, InIndex, InLength, InCall, InArguments, AfterQuestion, AfterPrefix, AfterCast, AfterBinary, AfterColon, AfterAssigns, Want, Have, Named, Typed, Dotted, NewObject, WantType, floor, is_behind_minus, begins_unsigned, no_cast, step, run, ended}

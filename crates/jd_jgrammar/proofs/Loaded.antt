@@ -3,7 +3,7 @@ use Rattle.std.proofs.Common.{◌≡◌, ℕ, ◌<◌, ◌≤◌, Bool, true, fa
 use Rattle.std.proofs.lemmas.Bool.{lt-ltb, le-ltb, le-leb}
 use Rattle.jd_jgrammar.specs.Tokens.{Token, CloseParen, OpenParen, Place}
 use Rattle.jd_jgrammar.specs.Types.{NamedType}
-use Rattle.jd_jgrammar.specs.Expressions.{Prefix, Signed, Counting, Expression, Integer, Value, This, Get, Parenthesized, EmptyCall, Call, NewArray, Index, Counted, Prefixed, Cast, Binary, InstanceOf, Conditional, Assigned, Access, Callee, Arguments, Kind, Primary, Least, kind_of, int_limit, is_target, level, fits_prefix, Fits}
+use Rattle.jd_jgrammar.specs.Expressions.{Prefix, Signed, Counting, Expression, Integer, Get, Parenthesized, Prefixed, Cast, Binary, InstanceOf, Conditional, Assigned, Access, Callee, Arguments, Kind, Primary, Least, kind_of, int_limit, level, fits_prefix, Fits}
 use Rattle.jd_jgrammar.specs.Expressions as tree
 use Rattle.jd_jgrammar.specs.Builders.{AccessOf, Own, On, CalleeOf, Method, Constructor, access_tree, callee_tree, trees}
 use Rattle.jd_jgrammar.specs.ExpressionReader.{Frame, InParentheses, AfterPrefix, AfterCast, AfterBinary, AfterColon, AfterAssigns, State, Want, Have, Named, Typed, Waits, Makes, Refuses, whole, out, floor, unless_below, reduce, binds_to, had, named, step}

@@ -2,10 +2,10 @@
 use Rattle.std.proofs.Common.{◌≡◌, ℕ, Bool, true, false, cond, ltb, ◌&&◌, ◌||◌, nat_eq, List, [], ◌∷◌, Option, Some, None, option_map, option_and_then, refl, ap, ◌∙◌}
 use Rattle.jd_jgrammar.specs.Tokens.{Minus, Token, Number, Word, Constant, ThisWord, IntWord, BooleanWord, InstanceofWord, Sign, Counts, Assigns, OpenParen, CloseParen, OpenBracket, CloseBracket, Dot, Comma, Question, Colon, Place, Tokens, is_binary, level_of, is_prefix}
 use Rattle.jd_jgrammar.specs.Types.{JavaType, BooleanType, NamedType, is_reference, TypeState, AfterInt, Complete, start_type, more_type, ended_type}
-use Rattle.jd_jgrammar.specs.Expressions.{Prefix, Signed, Counting, Expression, Integer, Value, This, Get, Parenthesized, EmptyCall, Call, NewArray, Index, Counted, Prefixed, Cast, Binary, InstanceOf, Conditional, Assigned, Arguments, First, More, kind_of, int_limit, is_target, has_members, has_elements}
+use Rattle.jd_jgrammar.specs.Expressions.{Signed, Counting, Expression, Integer, Get, Parenthesized, Counted, Prefixed, InstanceOf, Arguments, First, More, kind_of, int_limit, is_target, has_members, has_elements}
 use Rattle.jd_jgrammar.specs.Expressions as tree
 use Rattle.jd_jgrammar.specs.Builders.{AccessOf, Own, On, CalleeOf, Method, Constructor, Builder, access_tree, trees, access_made, callee_made, Makes}
-use Rattle.jd_jgrammar.specs.ExpressionReader.{Frame, InParentheses, InIndex, InLength, InCall, InArguments, AfterQuestion, AfterPrefix, AfterCast, AfterBinary, AfterColon, AfterAssigns, TypeHole, OfCast, OfInstance, State, Want, Have, Named, Typed, Dotted, AfterNew, NewObject, NewInts, WantType, InType, Whole, Waits, Refuses, Part, whole, out, floor, unless_below, reduce, push, is_behind_minus, end_empty, open_type, wanted, binds_to, end_paren, end_bracket, next_argument, other_branch, left_operand, tested, instance, had, named, begins_unsigned, no_cast, cast_to, end_cast, instance_type, type_goes_on, type_ends, in_type, after_new, step, run, if_alone, ended_typed, ended, read}
+use Rattle.jd_jgrammar.specs.ExpressionReader.{Frame, InParentheses, InIndex, InLength, InCall, InArguments, AfterQuestion, AfterPrefix, AfterCast, AfterBinary, AfterColon, AfterAssigns, TypeHole, OfCast, OfInstance, State, Want, Have, Named, Typed, Dotted, AfterNew, NewObject, NewInts, WantType, InType, Whole, Waits, Refuses, Part, whole, out, floor, unless_below, reduce, push, is_behind_minus, end_empty, open_type, wanted, binds_to, end_paren, end_bracket, next_argument, other_branch, left_operand, tested, instance, had, named, begins_unsigned, no_cast, cast_to, end_cast, instance_type, in_type, after_new, step, run, if_alone, ended_typed, ended, read}
 use Rattle.jd_jgrammar.specs.ExpressionReader as reader
 use Rattle.jd_jgrammar.specs.MadeStates as made
 

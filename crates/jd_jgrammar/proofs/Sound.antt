@@ -4,7 +4,7 @@ use Rattle.std.proofs.lemmas.Bool.{ltb-true, and_parts, or_cases, eqb-true, true
 use Rattle.std.proofs.lemmas.List.{append-nil}
 use Rattle.jd_jgrammar.specs.Tokens.{Operator, Minus, Token, Number, Word, Constant, ThisWord, NewWord, IntWord, BooleanWord, InstanceofWord, Sign, Counts, Assigns, OpenParen, CloseParen, OpenBracket, CloseBracket, Dot, Comma, Question, Colon, Place, Tokens, is_binary, level_of, is_prefix}
 use Rattle.jd_jgrammar.specs.Types.{JavaType, IntType, BooleanType, ArrayType, NamedType, spell_type, is_reference, TypeState, AfterInt, AfterOpen, Complete, start_type, more_type, ended_type}
-use Rattle.jd_jgrammar.specs.Expressions.{Prefix, Signed, Counting, Expression, Integer, Value, This, Get, Parenthesized, EmptyCall, Call, NewArray, Index, Counted, InstanceOf, Arguments, First, More, spell, spell_access, kind_of, int_limit, is_target, has_members, has_elements, level, Fits, FitAccess, IsExpression}
+use Rattle.jd_jgrammar.specs.Expressions.{Signed, Counting, Expression, Integer, Value, This, Get, Parenthesized, EmptyCall, Call, NewArray, Index, Counted, InstanceOf, First, More, spell, spell_access, kind_of, int_limit, is_target, has_members, has_elements, level, Fits, FitAccess, IsExpression}
 use Rattle.jd_jgrammar.specs.Expressions as tree
 use Rattle.jd_jgrammar.specs.Builders.{AccessOf, Own, On, Method, Constructor, access_tree, callee_tree, trees}
 use Rattle.jd_jgrammar.specs.ExpressionReader.{InParentheses, InIndex, InLength, InCall, InArguments, AfterQuestion, AfterPrefix, AfterCast, AfterBinary, AfterColon, AfterAssigns, TypeHole, OfCast, OfInstance, Want, Have, Named, Typed, Dotted, AfterNew, NewObject, NewInts, WantType, InType, Part, floor, reduce, push, is_behind_minus, binds_to, end_empty, open_type, wanted, end_paren, end_bracket, next_argument, other_branch, left_operand, tested, instance, had, named, begins_unsigned, no_cast, cast_to, end_cast, instance_type, type_goes_on, type_ends, in_type, after_new, step, run, if_alone, ended_typed, ended}

@@ -3,7 +3,7 @@ use Rattle.std.proofs.Common.{◌≡◌, Bool, true, false, cond, [], ◌∷◌,
 use Rattle.jd_jgrammar.specs.Tokens.{Token, CloseParen, OpenParen, Other, Semicolon, CloseBrace, ElseWord, SuperWord, Place, Tokens}
 use Rattle.jd_jgrammar.specs.Types.{JavaType, spell_type}
 use Rattle.jd_jgrammar.specs.ExpressionReader as expression
-use Rattle.jd_jgrammar.specs.Statements.{Declarators, JumpWord, Breaks, Continues, Statement, Inner, Empty, Local, Evaluated, Labelled, If, IfElse, While, For, Jump, Return, Throw, Try, Super, Block, Statements, NoStatements, Then, Handlers, NoHandlers, Handler, NoFinally, AtLast, spell_final, spell_declarators, spell_start, spell_some, spell_list, spell_catch, spell_statement, spell_block, spell_statements, spell_handlers, spell_finally, mark, FitDeclarators, FitTry, FitStatement, FitStatements, FitHandlers}
+use Rattle.jd_jgrammar.specs.Statements.{Declarators, Breaks, Continues, Statement, Inner, Empty, Local, Evaluated, Labelled, If, IfElse, While, For, Jump, Return, Throw, Try, Super, Statements, NoStatements, Then, Handlers, NoHandlers, Handler, NoFinally, AtLast, spell_final, spell_declarators, spell_catch, spell_statement, spell_block, spell_statements, spell_handlers, spell_finally, mark, FitDeclarators, FitTry, FitStatement, FitStatements, FitHandlers}
 use Rattle.jd_jgrammar.specs.Statements as tree
 use Rattle.jd_jgrammar.specs.StatementBuilders.{BlockOf, Braces, statement_trees}
 use Rattle.jd_jgrammar.specs.StatementReader.{Role, Plain, Tried, Caught, Last, Body, InBlock, AfterIf, AfterElse, AfterWhile, AfterFor, AfterLabel, OfLocal, IfTest, WhileTest, Alone, Returned, Thrown, Want, Did, WantArguments, WantResult, WantBlock, Tries, is_in_block, end_block, step, run}

@@ -3,7 +3,7 @@ use Rattle.std.proofs.Common.{◌≡◌, Bool, true, false, [], ◌∷◌, Some,
 use Rattle.jd_jgrammar.specs.Tokens.{Token, Other, ElseWord, CatchWord, FinallyWord, Place}
 use Rattle.jd_jgrammar.specs.Expressions.{Expression}
 use Rattle.jd_jgrammar.specs.ExpressionReader as expression
-use Rattle.jd_jgrammar.specs.Statements.{Annotation, Opens, Statement, Inner, Empty, Local, Evaluated, Labelled, If, IfElse, While, For, Jump, Return, Throw, Try, Super, Block, Statements, NoStatements, Then, Handlers, NoHandlers, Handler, Finally, NoFinally, AtLast, spell_annotation, spell_open, spell_statement, ends_open, is_loop, is_anywhere, is_inside, may_stand, FitTry}
+use Rattle.jd_jgrammar.specs.Statements.{Opens, Statement, Local, Labelled, If, IfElse, While, For, Try, Super, Statements, NoStatements, Then, Handlers, NoFinally, spell_statement, ends_open, is_loop, is_anywhere, is_inside}
 use Rattle.jd_jgrammar.specs.Statements as tree
 use Rattle.jd_jgrammar.specs.StatementBuilders.{Braces, statement_trees}
 use Rattle.jd_jgrammar.specs.StatementReader.{Role, Plain, Tried, Caught, Last, Body, InBlock, AfterIf, AfterElse, AfterWhile, AfterFor, AfterLabel, Want, WantLoop, Did, Tries, settle, is_in_block, end_block, later, next_statement, else_of, did, step, run}

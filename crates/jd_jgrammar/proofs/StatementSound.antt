@@ -5,7 +5,7 @@ use Rattle.jd_jgrammar.specs.Tokens.{Token, Word, IntWord, BooleanWord, OpenPare
 use Rattle.jd_jgrammar.specs.Types.{BooleanType, AfterInt, Complete, start_type, more_type}
 use Rattle.jd_jgrammar.specs.Expressions.{Expression, Arguments}
 use Rattle.jd_jgrammar.specs.ExpressionReader as expression
-use Rattle.jd_jgrammar.specs.Statements.{Annotation, ForOpen, Opens, ForStart, NoStart, JumpWord, Breaks, Continues, Catches, Statement, Inner, Empty, Jump, Return, Try, Super, Statements, NoStatements, Then, Handlers, NoHandlers, Handler, NoFinally, AtLast, spell_block, spell_handlers, spell_statement, spell_statements, ends_open, FitTry, FitStatement, FitBlock, FitHandlers}
+use Rattle.jd_jgrammar.specs.Statements.{Annotation, ForOpen, ForStart, NoStart, JumpWord, Breaks, Continues, Catches, Statement, Inner, Empty, Jump, Return, Try, Super, Statements, NoStatements, Then, Handlers, NoHandlers, Handler, NoFinally, AtLast, spell_block, spell_handlers, spell_statement, spell_statements}
 use Rattle.jd_jgrammar.specs.Statements as tree
 use Rattle.jd_jgrammar.specs.StatementBuilders.{BlockOf, Braces, statement_trees, block_tree}
 use Rattle.jd_jgrammar.specs.StatementReader.{Role, Plain, Tried, Caught, Last, Body, InBlock, AfterIf, AfterElse, AfterFor, AfterLabel, OfLocal, OfFor, StartOf, UpdateOf, SuperOf, Alone, ForTest, Returned, Thrown, InList, Opening, OpensIf, OpensWhile, OpensFor, OpensSuper, CatchState, AfterCatch, AfterParen, AfterFinal, AfterClass, AfterName, Want, WantLoop, WantColon, WantParen, InExpression, Did, WantType, InType, WantName, HasName, WantStart, WantTest, WantUpdate, WantArguments, EndSuper, Jumps, JumpsTo, WantResult, WantBlock, Tries, InCatch, Ended, Part, settle, is_in_block, at_semicolon, end_block, later, super_wanted, wanted, loop_wanted, opened, start_wanted, test_wanted, update_wanted, arguments_wanted, jumps, result_wanted, in_catch, next_statement, else_of, did, tries, step, run}

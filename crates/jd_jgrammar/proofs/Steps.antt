@@ -3,7 +3,7 @@ use Rattle.std.proofs.Common.{◌≡◌, ◌≤◌, Bool, true, false, cond, not
 use Rattle.std.proofs.lemmas.Bool.{lt-ltb, and_from}
 use Rattle.jd_jgrammar.specs.Tokens.{Operator, Count, Assignment, Token, Sign, Counts, Assigns, CloseParen, CloseBracket, OpenBracket, Dot, Comma, Colon, InstanceofWord, Question, Other, Place, is_binary, level_of}
 use Rattle.jd_jgrammar.specs.Expressions as tree
-use Rattle.jd_jgrammar.specs.Expressions.{Expression, Get, Parenthesized, Arguments, First, More, kind_of, is_target, has_members, has_elements, int_limit, level, Fits, FitArguments}
+use Rattle.jd_jgrammar.specs.Expressions.{Expression, Get, Parenthesized, Arguments, First, More, kind_of, is_target, has_members, has_elements, level, Fits, FitArguments}
 use Rattle.jd_jgrammar.specs.Builders.{CalleeOf, trees}
 use Rattle.jd_jgrammar.specs.ExpressionReader.{InParentheses, InIndex, InLength, InCall, InArguments, AfterQuestion, AfterBinary, AfterColon, AfterAssigns, Want, Have, Dotted, WantType, floor, reduce, push, left_operand, instance, tested, other_branch, next_argument, end_paren, end_bracket, if_alone, had, step, ended}
 use Rattle.jd_jgrammar.proofs.Tables.{range, binary_unsigned, loose}

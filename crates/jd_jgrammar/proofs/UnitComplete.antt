@@ -3,7 +3,7 @@ use Rattle.std.proofs.Common.{◌≡◌, ℕ, true, false, ◌&&◌, cond, List,
 use Rattle.std.proofs.lemmas.Slice.Eq.{bytes_eq-Decides}
 use Rattle.jd_jgrammar.specs.Tokens.{Number, Word, IntWord, OpenParen, CloseParen, Assigns, Set, Other, Semicolon, OpenBrace, CloseBrace, ClassWord, PackageWord, VoidWord, Place, Tokens}
 use Rattle.jd_jgrammar.specs.Types.{JavaType, IntType}
-use Rattle.jd_jgrammar.specs.Statements.{Annotation, Block, spell_annotation, spell_block, mark, FitWhole}
+use Rattle.jd_jgrammar.specs.Statements.{Annotation, spell_annotation, spell_block, mark, FitWhole}
 use Rattle.jd_jgrammar.specs.Statements as statement
 use Rattle.jd_jgrammar.specs.StatementBuilders.{Braces}
 use Rattle.jd_jgrammar.specs.Units.{Modifiers, Names, OneName, MoreNames, Parameters, Throws, Result, Void, Gives, Takes, Member, Field, Constant, Method, Constructor, Members, NoMembers, Also, Heads, Class, Has, Classes, NoClasses, AndClass, Package, NoPackage, InPackage, File, has_static, has_final, has_jml, is_constant, spell_modifiers, spell_taken, spell_throws, spell_result, spell_minus, spell_member, spell_members, spell_extends, spell_head, spell_class, spell_classes, spell_package, spell_unit, FitMember, FitMembers, FitClass, FitClasses}

@@ -8,7 +8,7 @@ use Rattle.jd_jgrammar.specs.Types.{JavaType, IntType, NamedType, spell_type, Ty
 use Rattle.jd_jgrammar.specs.Statements.{Annotation, Statements, spell_annotation, mark}
 use Rattle.jd_jgrammar.specs.StatementBuilders.{BlockOf, statement_trees}
 use Rattle.jd_jgrammar.specs.StatementReader as body
-use Rattle.jd_jgrammar.specs.Units.{Modifier, Ignored, Static, Final, Marker, Modifiers, NoModifiers, Modified, Names, OneName, MoreNames, Parameters, Throws, NoThrows, Throwing, OneParameter, MoreParameters, Void, Gives, Members, NoMembers, Also, Field, Constant, Method, Constructor, Has, Classes, NoClasses, AndClass, Package, NoPackage, InPackage, QualifiedName, Simple, Qualified, File, IsUnit, has_static, has_final, has_jml, is_constant, spell_modifiers, spell_names, spell_throws, spell_parameters}
+use Rattle.jd_jgrammar.specs.Units.{Modifier, Ignored, Static, Final, Marker, Modifiers, NoModifiers, Modified, Names, OneName, MoreNames, Parameters, Throws, NoThrows, Throwing, Void, Gives, NoMembers, Also, Field, Constant, Has, Classes, NoClasses, AndClass, Package, NoPackage, InPackage, QualifiedName, Simple, Qualified, File, IsUnit, has_static, has_final, has_jml, is_constant, spell_modifiers, spell_throws, spell_parameters}
 use Rattle.jd_jgrammar.specs.Units as tree
 use Rattle.jd_jgrammar.specs.UnitBuilders.{Heads, Declares, unit_trees, throws_tree}
 use Rattle.jd_jgrammar.specs.UnitReader.{ModifierState, Behind, Pending, AfterAt, Outer, Inner, Of, Builds, Opens, Closes, OfClass, OfMember, OfParameter, AtStart, AfterPackage, InName, AfterDot, Between, InModifiers, AfterClass, ClassNamed, AfterExtends, Extended, BetweenMembers, AfterJml, NameOrType, InType, AfterVoid, VoidNamed, TypeNamed, AfterComma, FieldNames, ConstantWanted, ConstantRead, WantParameters, WantParameter, InParameterType, HasParameters, AfterParameters, AfterThrows, ThrowsMore, ThrowsNames, InBody, modifier_at, more_modifiers, ended_modifiers, class_wanted, member_wanted, parameter_wanted, behind_modifiers, in_modifiers, step_modifiers, start_modifiers, class_named, end_class, between_members, after_jml, class_name, with_field, field_names, constant_named, type_named, name_or_type, type_ends, in_type, constant_wanted, constant_read, parameters_wanted, another_wanted, all_parameters, parameter_ends, in_parameter, has_parameters, body_of, with_routine, body_goes_on, step_body, start_body, after_parameters, throws_names, at_start, in_name, step, ended, run}

@@ -5,7 +5,7 @@ use Rattle.jd_jgrammar.specs.Types.{JavaType}
 use Rattle.jd_jgrammar.specs.Expressions.{Expression, Arguments}
 use Rattle.jd_jgrammar.specs.Statements.{Annotation, Declarators, Statement, Statements, Handlers}
 use Rattle.jd_jgrammar.specs.StatementBuilders.{BlockOf, StatementBuilder, statement_trees, block_tree, block_made, MakesStatements}
-use Rattle.jd_jgrammar.specs.Units.{Modifier, Modifiers, NoModifiers, Modified, has_static, has_final, has_jml, Names, OneName, MoreNames, Parameters, OneParameter, MoreParameters, Throws, NoThrows, Throwing, Result, Members, NoMembers, Also, Field, Constant, Method, Constructor, Class, Has, Classes, NoClasses, AndClass, QualifiedName, Simple, Qualified, Package, NoPackage, InPackage}
+use Rattle.jd_jgrammar.specs.Units.{Modifier, Modifiers, NoModifiers, Modified, has_static, has_final, has_jml, Names, OneName, MoreNames, Parameters, OneParameter, MoreParameters, Throws, NoThrows, Throwing, Result, Members, NoMembers, Also, Field, Constant, Method, Constructor, Has, Classes, NoClasses, AndClass, QualifiedName, Simple, Qualified, Package, NoPackage, InPackage}
 use Rattle.jd_jgrammar.specs.Units as tree
 
 -- over modifiers, parameters, thrown names and statements of any type

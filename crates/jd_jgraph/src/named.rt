@@ -1,6 +1,6 @@
 //! The families of the methods of each name.
 
-ghost use Rattle.std.specs.Prelude.{◌≡◌, ◌<◌, ◌≤◌, ℕ, List, [], map, length, replicate, slice_index, IfOk, OnOk};
+ghost use Rattle.std.specs.Prelude.{◌≡◌, ◌<◌, ℕ, [], map, length, replicate, slice_index, IfOk, OnOk};
 ghost use Rattle.jd_jclasses.specs.Members.{is_method, is_routine};
 ghost use Rattle.jd_jgraph.specs.Named.{AreNamed, lists_of, put_behind, put_if};
 ghost use Rattle.jd_jlists.specs.Views.{member_of_view};

@@ -2,7 +2,7 @@
 
 ghost use Rattle.std.specs.Prelude.{◌≡◌, ◌++◌, ◌≤◌, map, length, IfOk, OnOk};
 ghost use Rattle.jd_syntax.specs.JavaTrees.{class_view, unit_view};
-ghost use Rattle.jd_jclasses.specs.Classes.{classes_from, declared_classes};
+ghost use Rattle.jd_jclasses.specs.Classes.{declared_classes};
 ghost use Rattle.jd_jheads.specs.Placed.{in_file, placed_view};
 
 use jd_base::NoMemory;

@@ -1,6 +1,6 @@
 //! What each class sees.
 
-ghost use Rattle.std.specs.Prelude.{◌≡◌, ◌+◌, ◌≤◌, ℕ, List, map, length, IfOk};
+ghost use Rattle.std.specs.Prelude.{◌≡◌, ◌+◌, ◌≤◌, List, map, length, IfOk};
 ghost use Rattle.jd_ancestry.specs.Depths.{IsDepths};
 ghost use Rattle.jd_jlists.specs.Views.{member_of_view};
 ghost use Rattle.jd_jseen.specs.Seen.{AreSeen, cells_of, name_count};

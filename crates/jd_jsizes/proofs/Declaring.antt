@@ -1,5 +1,5 @@
 -- Files have no more classes and members than the sizes of their trees together.
-use Rattle.std.proofs.Common.{◌≡◌, ℕ, suc, ◌+◌, ◌≤◌, List, [], ◌∷◌, ◌++◌, length, map, refl, arith}
+use Rattle.std.proofs.Common.{◌≡◌, ℕ, suc, ◌+◌, ◌≤◌, List, [], ◌∷◌, ◌++◌, length, map, arith}
 use Rattle.std.specs.List.{All}
 use Rattle.std.proofs.lemmas.List.{length-append, length-map}
 use Rattle.std.proofs.lemmas.List.Elements.{All-cons, All-nil}
@@ -7,7 +7,7 @@ use Rattle.jd_syntax.specs.JavaTypes.{PlainIdentifier, PlainType}
 use Rattle.jd_syntax.specs.JavaTrees.{JavaMember, FieldMember, ConstantMember, MethodMember, JavaClass, JavaUnit}
 use Rattle.jd_jclasses.specs.Classes.{DeclaredClass, classes_from}
 use Rattle.jd_jclasses.specs.Members.{Declared, FieldOf, of_member, of_members, of_classes}
-use Rattle.jd_jsizes.specs.Sizes.{member_size, members_size, class_size, classes_size, unit_size, files_size}
+use Rattle.jd_jsizes.specs.Sizes.{member_size, members_size, class_size, classes_size, files_size}
 
 -- ---- classes
 

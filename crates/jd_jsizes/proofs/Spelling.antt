@@ -3,9 +3,9 @@ use Rattle.std.proofs.Common.{◌≡◌, ℕ, suc, ◌+◌, ◌≤◌, List, [],
 use Rattle.std.proofs.lemmas.List.{length-append}
 use Rattle.jd_syntax.specs.JavaTrees.{JavaMember, JavaClass}
 use Rattle.jd_jgrammar.specs.Tokens.{Tokens, Comma, Word, Other, Semicolon, CloseBrace}
-use Rattle.jd_jgrammar.specs.Types.{JavaType, IntType, BooleanType, ArrayType, NamedType, spell_type}
+use Rattle.jd_jgrammar.specs.Types.{spell_type}
 use Rattle.jd_jgrammar.specs.Statements.{spell_annotation, mark}
-use Rattle.jd_jgrammar.specs.Units.{Names, OneName, MoreNames, Routine, Takes, Member, Field, Constant, Method, Constructor, Members, NoMembers, Also, ClassHead, Heads, Class, Has, Classes, NoClasses, AndClass, CompilationUnit, File, spell_names, spell_modifiers, spell_result, spell_routine, spell_member, spell_members, spell_head, spell_class, spell_classes, spell_package, spell_unit}
+use Rattle.jd_jgrammar.specs.Units.{Names, OneName, MoreNames, Takes, Member, Field, Constant, Method, Constructor, Members, NoMembers, Also, Heads, Class, Has, Classes, NoClasses, AndClass, CompilationUnit, File, spell_names, spell_modifiers, spell_result, spell_member, spell_members, spell_head, spell_class, spell_classes, spell_package, spell_unit}
 use Rattle.jd_jtrees.specs.JavaTreesOf.{identifier}
 use Rattle.jd_jtrees.specs.JavaUnitsOf.{name_trees, member_tree, member_trees, class_tree, class_trees, unit_tree}
 use Rattle.jd_jsizes.specs.Sizes.{member_size, members_size, class_size, classes_size, unit_size}

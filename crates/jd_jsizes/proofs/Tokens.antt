@@ -1,5 +1,5 @@
 -- A text has no more tokens than bytes, and the grammar sees no more.
-use Rattle.std.proofs.Common.{◌≡◌, ℕ, suc, ◌+◌, ◌≤◌, List, [], ◌∷◌, length, Bool, true, false, cond, arith}
+use Rattle.std.proofs.Common.{ℕ, suc, ◌+◌, ◌≤◌, List, [], ◌∷◌, length, Bool, true, false, cond, arith}
 use Rattle.jd_lex.specs.Parts.{Token}
 use Rattle.jd_lex.specs.Places.{AreSlices, InOrder}
 use Rattle.jd_jgrammar.specs.Tokens.{Tokens, Place}

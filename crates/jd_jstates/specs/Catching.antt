@@ -1,5 +1,5 @@
 -- What a token makes of the head of a handler, whatever it belongs to (JLS 14.20).
-use Rattle.std.specs.Prelude.{Option, Some, None}
+use Rattle.std.specs.Prelude.{Some, None}
 use Rattle.jd_jgrammar.specs.Tokens.{Token, Word, OpenParen, CloseParen, Other, FinalWord, Place}
 use Rattle.jd_jgrammar.specs.Statements.{CatchHead, Catches}
 use Rattle.jd_jgrammar.specs.StatementReader.{CatchState, AfterCatch, AfterParen, AfterFinal, AfterClass, AfterName}

@@ -4,7 +4,7 @@ use Rattle.std.proofs.lemmas.Bool.{leb-true, leb-false, le-leb, lt-leb}
 use Rattle.jd_syntax.specs.JavaTrees as java
 use Rattle.jd_syntax.specs.JavaTrees.{JavaExpr, java_exprs}
 use Rattle.jd_jgrammar.specs.Tokens.{Literal, TrueLiteral, FalseLiteral, NullLiteral, Place}
-use Rattle.jd_jgrammar.specs.Expressions.{Prefix, Expression, Arguments, Kind, Target, Called, Integer, Value, This, Get, Parenthesized, EmptyCall, Call, NewArray, Index, Counted, Prefixed, Cast, Binary, InstanceOf, Conditional, Assigned, First, More, kind_of}
+use Rattle.jd_jgrammar.specs.Expressions.{Prefix, Expression, Arguments, Kind, Target, Called, Integer, Value, This, Get, Parenthesized, EmptyCall, Call, NewArray, Cast, InstanceOf, First, More, kind_of}
 use Rattle.jd_jgrammar.specs.Expressions as tree
 use Rattle.jd_jgrammar.specs.Builders.{AccessOf, Own, On, CalleeOf, Method, Constructor, Builder, access_tree, callee_tree, access_made, callee_made, Makes}
 use Rattle.jd_jtrees.specs.Heights.{height, height_of_list}

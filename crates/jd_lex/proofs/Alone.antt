@@ -1,8 +1,8 @@
 -- A sign of one byte with which no other begins is the longest where it stands.
-use Rattle.std.proofs.Common.{◌≡◌, ◌⊎◌, inl, inr, ℕ, ◌≤◌, Bool, true, false, not, ◌==◌, ◌&&◌, ◌||◌, List, [], ◌∷◌, ◌++◌, length, take, refl, sym, ap, subst, ◌∙◌, eq-eqb, true≢false, arith}
+use Rattle.std.proofs.Common.{◌≡◌, ◌⊎◌, inl, inr, ℕ, ◌≤◌, Bool, true, false, not, ◌==◌, ◌&&◌, ◌||◌, List, [], ◌∷◌, length, refl, sym, ap, subst, ◌∙◌, eq-eqb, true≢false, arith}
 use Rattle.std.specs.List.{list_any, list_all}
 use Rattle.std.proofs.lemmas.Bool.{eqb-true}
-use Rattle.jd_lex.specs.Signs.{Listed, BeginsWith, alone, begins_alone, stands_alone, signs}
+use Rattle.jd_lex.specs.Signs.{Listed, BeginsWith, alone, begins_alone, signs}
 use Rattle.jd_lex.specs.Lens.{LongestLen}
 
 -- the byte is a sign of the table

@@ -7,7 +7,7 @@ use Rattle.std.proofs.Math.Seq.{take-append-add}
 use Rattle.std.specs.List.{list_any}
 use Rattle.std.specs.Str.{bytes_eq}
 use Rattle.jd_lex.specs.Signs.{signs, jml_signs, Listed, BeginsNone}
-use Rattle.jd_lex.specs.Bytes.{is_white, is_letter, in_line, AllOf, IsRun}
+use Rattle.jd_lex.specs.Bytes.{is_white, is_letter, in_line, IsRun}
 use Rattle.jd_lex.specs.Parts.{Fault, start_by, start_of, IsWhite, IsLineComment, IsBlockComment, NoClose, jml_text, IsPlain, IsPlainFault}
 use Rattle.jd_lex.specs.Lexing.{Parts, JmlPart, IsJmlPart, IsJmlFault, JavaPart, IsJavaPart, JavaFault, IsJavaFault, CommentFault}
 use Rattle.jd_lex.specs.Lens.{Head, ClosesAt}

@@ -2,7 +2,7 @@
 use Rattle.std.specs.Prelude.{◌≡◌, ℕ, ◌<◌, ◌≤◌, List, ◌++◌, map, length, take, drop, cond, nat_le, Option, Result, Ok, Err}
 use Rattle.std.specs.Global.{Vec}
 use Rattle.jd_lex.specs.Parts as plain
-use Rattle.jd_lex.specs.Parts.{Part, Fault}
+use Rattle.jd_lex.specs.Parts.{Fault}
 use Rattle.jd_lex.specs.Lexing.{Parts, Faults, Whole, Stops, CommentGives, CommentFault, IsJavaPart, IsJavaFault, Spells, IsFirstFault}
 use Rattle.jd_lex.specs.declared.token.Token.{Token}
 use Rattle.jd_lex.specs.declared.token.TokenKind.{TokenKind}

@@ -1,6 +1,6 @@
 ghost use Rattle.std.specs.Prelude.{◌≡◌, ◌<◌, ◌≤◌, ◌+◌, ◌++◌, ◌∷◌, [], length, ◌^◌, OnOk, IfErr};
 ghost use Rattle.jd_lex.specs.Parts.{start_of, IsPlain, IsPlainFault};
-ghost use Rattle.jd_lex.specs.View.{kind_view, tokens_view, StepGives, Adds};
+ghost use Rattle.jd_lex.specs.View.{kind_view, tokens_view, StepGives};
 ghost use Rattle.jd_lex.specs.declared.starts.Start.TheVariants.{WordStart, NumberStart, SignStart};
 ghost use Rattle.jd_lex.specs.declared.token.LexRefusal.TheVariants as Refusal;
 

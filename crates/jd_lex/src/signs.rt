@@ -1,4 +1,4 @@
-ghost use Rattle.std.specs.Prelude.{◌≡◌, ◌<◌, length, map};
+ghost use Rattle.std.specs.Prelude.{◌≡◌, ◌<◌, map};
 ghost use Rattle.jd_lex.specs.Signs as the_signs;
 ghost use Rattle.jd_lex.specs.Signs.{signs};
 ghost use Rattle.jd_lex.specs.Lens.{Longer, LongestLen};

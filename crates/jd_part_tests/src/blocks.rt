@@ -3,9 +3,8 @@ ghost use Rattle.jd_syntax.specs.CodeViews.{code_view, stmt_view};
 ghost use Rattle.jd_update_truth.specs.SortedFormulas.{SortedCode, SortedSequent, SortedStmt};
 ghost use Rattle.std.specs.Prelude.{IfOk, None};
 
+use crate::tables::tables;
 use jd_base::{ClassId, MethodId, NoMemory, Sort, copy_bytes};
-use jd_classes::Classes;
-use jd_files::classes_of;
 use jd_first_rules::FirstRules;
 use jd_model::{Contracts, Place, Sequent, Side};
 use jd_sequent::{Obligation, RuleSet, Step, Task};
@@ -13,14 +12,6 @@ use jd_syntax::{Code, CodeExpr, CodeStmt, VarId};
 use jd_term::{Formula, Modality, Term, boxed_formula};
 use std::alloc::Global;
 use std::test::Fail;
-
-fn tables(alloc: Global) -> Result<Classes, Fail> {
-    let files = vec![in alloc; b"class C { void m() {} }".to_vec(alloc)?]?;
-    match classes_of(alloc, &files) {
-        Ok(classes) => Ok(classes),
-        Err(_) => Err(Fail::from("refused")),
-    }
-}
 
 fn contracts(alloc: Global) -> Contracts {
     Contracts {
@@ -64,7 +55,7 @@ fn set_simple(alloc: Global, sequent: &Sequent) -> Result<Vec<Sequent>, Fail>
     };
     let contracts = contracts(alloc);
     let obligation = obligation(alloc)?;
-    let classes = tables(alloc)?;
+    let classes = tables(alloc, b"class C { void m() {} }")?;
     let task = Task::of(&classes, &contracts, &obligation);
     match FirstRules.apply(alloc, &task, sequent, &step) {
         Ok(premises) => Ok(premises),
@@ -72,12 +63,14 @@ fn set_simple(alloc: Global, sequent: &Sequent) -> Result<Vec<Sequent>, Fail>
     }
 }
 
-// Whether this is {.. := 1} dia(s) true, and s this statement.
+// Whether this is {x := 1} dia(s) true, and s this statement.
 fn is_left(f: &Formula, wanted: &CodeStmt) -> bool {
     match f {
         Formula::Updated(update, inside) => match (update.pairs.as_slice(), &**inside) {
             ([pair], Formula::Modal(Modality::Possibility, code, end)) => {
-                pair.value.equals(&Term::Number(1))
+                pair.variable.name.as_slice() == b"x".as_slice()
+                    && pair.variable.sort == Sort::Int
+                    && pair.value.equals(&Term::Number(1))
                     && end.equals(&Formula::TrueFormula)
                     && is_alone(code, wanted)
             }

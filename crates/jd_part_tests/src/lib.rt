@@ -6,6 +6,6 @@ mod blocks;
 #[cfg(test)]
 mod calls;
 #[cfg(test)]
-mod ended;
-#[cfg(test)]
 mod locations;
+#[cfg(test)]
+mod tables;

@@ -1,4 +1,4 @@
-ghost use Rattle.std.specs.Prelude.{◌≡◌, ◌≤◌, length};
+ghost use Rattle.std.specs.Prelude.{◌≤◌, length};
 ghost use Rattle.jd_bracketed.specs.Tokens.{tokens_of};
 ghost use Rattle.jd_bracketed.specs.TokenViews.{token_view};
 ghost use Rattle.jd_scripts.specs.Answers.{limits_of, most_levels, most_steps};

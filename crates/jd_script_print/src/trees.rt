@@ -1,7 +1,7 @@
 //! The text of trees, from their nodes in preorder.
 
-ghost use Rattle.std.specs.Prelude.{◌≡◌, [], OnOk, map, option_map, reverse};
-ghost use Rattle.jd_sequent.specs.Steps.{node_view, step_view};
+ghost use Rattle.std.specs.Prelude.{◌≡◌, [], OnOk, map, reverse};
+ghost use Rattle.jd_sequent.specs.Steps.{node_view};
 ghost use Rattle.jd_script_print.specs.Writing as writing;
 
 use crate::steps::write_step;

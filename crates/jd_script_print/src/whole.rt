@@ -1,7 +1,6 @@
 //! The text of files of proof scripts.
 
 ghost use Rattle.std.specs.Prelude.{◌≡◌, OnOk, IfOk, map};
-ghost use Rattle.jd_sequent.specs.Steps.{node_view};
 ghost use Rattle.jd_script.specs.ProofViews.{proof_view};
 ghost use Rattle.jd_script_print.specs.Laws.{script_text};
 ghost use Rattle.jd_script_print.specs.Views.{named_nodes};

@@ -1,7 +1,7 @@
 ghost use Rattle.std.specs.Prelude.{◌≡◌, ◌-◌, ◌^◌, ◌↔◌, IsTrue, map, sum_by, min};
 ghost use Rattle.std.specs.List.{list_all};
 ghost use Rattle.jd_term.specs.Formulas.{formula_view};
-ghost use Rattle.jd_term.specs.FormulaSizes.{formula_size, formula_depth};
+ghost use Rattle.jd_term.specs.FormulaSizes.{formula_size};
 ghost use Rattle.jd_model.specs.Sequents.{sequent_view};
 ghost use Rattle.jd_sequent.specs.Limits.{is_small_formula, IsWithinLimits};
 

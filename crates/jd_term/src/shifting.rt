@@ -1,9 +1,9 @@
 //! The shift of the variables that binders outside bind.
 
-ghost use Rattle.jd_term.specs.Formulas.{formula_view, pair_view, update_view};
+ghost use Rattle.jd_term.specs.Formulas.{formula_view, pair_view};
 ghost use Rattle.jd_term.specs.Shifts.{LocFits, PairsFit, ShiftFits, TermFits, formula_shift, loc_shift, pairs_shift, term_shift};
 ghost use Rattle.jd_term.specs.TermViews.{loc_view, term_view};
-ghost use Rattle.std.specs.Prelude.{◌≡◌, ◌+◌, ◌<◌, ◌^◌, All, IfOk, map};
+ghost use Rattle.std.specs.Prelude.{◌≡◌, ◌+◌, ◌<◌, IfOk, map};
 
 use crate::copies::{boxed_formula, boxed_loc, boxed_term};
 use crate::formula::{Elementary, Formula, Update};

@@ -3,7 +3,6 @@ use Rattle.std.proofs.Common.{◌≡◌, ◌≢◌, List, [], ◌∷◌, true, f
 use Rattle.std.specs.Option.{option_and_then, option_or}
 use Rattle.jd_base.specs.declared.sort.Sort.{Sort}
 use Rattle.jd_base.specs.declared.sort.Sort.TheVariants.{Int as IntSort, Bool as BoolSort, Ref as RefSort, Heap as HeapSort, Field as FieldSort}
-use Rattle.jd_syntax.specs.Sxs.{Bracketed, BracketedList}
 use Rattle.jd_syntax.specs.Codes as code
 use Rattle.jd_syntax.specs.Codes.{Expr, Exprs, NoExprs, ExprThen, Stmt, PlainCode, Done, Then}
 use Rattle.jd_syntax.specs.declared.code.UnaryOp.{UnaryOp}

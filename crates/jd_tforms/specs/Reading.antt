@@ -8,7 +8,7 @@ use Rattle.jd_base.specs.declared.sort.Sort.TheVariants.{Int as IntSort}
 use Rattle.jd_syntax.specs.Names.{Name}
 use Rattle.jd_syntax.specs.Sxs.{Bracketed, BracketedList, Atom, Brackets, NoneBracketed, BracketedThen}
 use Rattle.jd_syntax.specs.Codes as code
-use Rattle.jd_syntax.specs.Codes.{PlainKind, Expr, Exprs, NoExprs, ExprThen, Stmt, PlainCode, Done, Then}
+use Rattle.jd_syntax.specs.Codes.{Expr, Exprs, NoExprs, ExprThen, Stmt, PlainCode, Done, Then}
 use Rattle.jd_term.specs.Terms as terms
 use Rattle.jd_term.specs.Terms.{PlainTerm, PlainLoc}
 use Rattle.jd_term.specs.Formulas as formulas

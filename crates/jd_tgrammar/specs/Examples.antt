@@ -3,7 +3,7 @@ use Rattle.std.specs.Prelude.{◌≡◌, ℕ, pos, negsuc, List, [], ◌∷◌, 
 use Rattle.jd_base.specs.declared.sort.Sort.TheVariants.{Int as IntSort, Bool as BoolSort, Ref as RefSort, Heap as HeapSort, Field as FieldSort}
 use Rattle.jd_syntax.specs.Names.{Name}
 use Rattle.jd_syntax.specs.Codes as code
-use Rattle.jd_syntax.specs.Codes.{PlainKind, OfClass, IntArray, Expr, Exprs, NoExprs, ExprThen, Stmt, PlainCode, Done, Then}
+use Rattle.jd_syntax.specs.Codes.{OfClass, IntArray, Expr, NoExprs, ExprThen, Stmt, PlainCode, Done, Then}
 use Rattle.jd_syntax.specs.declared.code.UnaryOp.TheVariants as unary
 use Rattle.jd_syntax.specs.declared.code.BinaryOp.TheVariants as binary
 use Rattle.jd_term.specs.declared.term.ArithmeticOp.TheVariants as arithmetic

@@ -1,7 +1,7 @@
 -- The answer by its four questions.
-use Rattle.std.proofs.Common.{◌≡◌, ◌-◌, ◌<◌, ◌^◌, ℕ, Bool, true, false, min, nat_lt, cond, Option, Some, None, refl, sym, ap, ◌∙◌, arith}
+use Rattle.std.proofs.Common.{◌≡◌, ◌-◌, ◌^◌, ℕ, Bool, true, false, min, nat_lt, Option, Some, None, refl, sym, ap, arith}
 use Rattle.std.proofs.lemmas.Bool.Decides.{nat_tests}
-use Rattle.jd_tforms.specs.Answers.{Answer, Is, Refused, NoForm, UnknownSymbol, SortMismatch, TooDeep, most_deep, answer}
+use Rattle.jd_tforms.specs.Answers.{Is, Refused, NoForm, UnknownSymbol, SortMismatch, TooDeep, most_deep, answer}
 
 pub deep : (n d : ℕ) → d ≡ min n (2 ^ 64 - 1) → nat_lt 1000 d ≡ nat_lt most_deep n
 deep n d e = by (nat_lt 1000 d) refl

@@ -1,8 +1,7 @@
-use Rattle.std.proofs.Common.{◌≤◌, map, length, sym, subst, arith}
+use Rattle.std.proofs.Common.{◌≤◌, map, length, arith}
 use Rattle.std.proofs.lemmas.List.{length-map}
 use Rattle.std.proofs.lemmas.List.Elements.{All-map}
 use Rattle.jd_syntax.specs.JavaTrees.{unit_view}
-use Rattle.jd_jsizes.specs.Sizes.{TokensAreFew, TreesAreSmall, ClassesAreFew, PlacesAreFew, MembersAreFew}
 use Rattle.jd_files.specs.Files.{file_limit}
 use Rattle.jd_files.proofs.ClassRefusals.{refuses_classes}
 use Rattle.jd_files.proofs.Sizes.{AreFewParts, few_parts}

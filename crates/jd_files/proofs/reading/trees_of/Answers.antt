@@ -1,4 +1,4 @@
-use Rattle.std.proofs.Common.{◌≡◌, ◌<◌, length, map, sym, ap, subst, refl, arith, ◌∙◌}
+use Rattle.std.proofs.Common.{◌<◌, length, map, subst, refl, arith}
 use Rattle.std.proofs.lemmas.List.{length-map}
 use Rattle.jd_syntax.specs.JavaTrees.{unit_view}
 use Rattle.jd_files.specs.Readings.{ReadsMore}

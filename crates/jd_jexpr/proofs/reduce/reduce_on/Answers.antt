@@ -1,5 +1,5 @@
-use Rattle.std.proofs.Common.{◌≡◌, Some, ap, sym, ◌∙◌}
-use Rattle.jd_jexpr.specs.Views.{stack_view, value_view}
+use Rattle.std.proofs.Common.{Some, ap, sym, ◌∙◌}
+use Rattle.jd_jexpr.specs.Views.{value_view}
 use Rattle.jd_jexpr.specs.Reduced.{Stack}
 use Rattle.jd_jexpr.proofs.Reducing.{nothing_waits, turn}
 use Rattle.jd_jexpr.proofs.reduce.reduce_on.Goals as goal

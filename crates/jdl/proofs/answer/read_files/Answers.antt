@@ -1,4 +1,4 @@
-use Rattle.std.proofs.Common.{rules, ◌+◌, map, sym, subst, arith}
+use Rattle.std.proofs.Common.{rules, ◌+◌, map, sym, subst}
 use Rattle.std.specs.Prelude.{IsErrOf}
 use Rattle.jdl.specs.declared.answer.Stop.TheVariants.{NoMemory, ReadFault}
 use Rattle.jdl.specs.Words.{word_texts}
