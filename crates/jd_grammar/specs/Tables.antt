@@ -1,0 +1,55 @@
+-- A table as plain data.
+use Rattle.std.specs.Prelude.{ℕ, zero, suc, ◌+◌, ◌*◌, List, map, not, ◌&&◌, cond, nat_eq, nat_lt, Option, Some, None, slice_range, slice_index, slice_index_or, Bool, false}
+use Rattle.std.specs.List.{slice_get}
+use Rattle.jd_grammar.specs.declared.table.Symbol.{Symbol}
+use Rattle.jd_grammar.specs.declared.table.Rule.{Rule}
+use Rattle.jd_grammar.specs.declared.table.Table.{Table}
+use Rattle.jd_grammar.specs.Grammars.{Production}
+
+-- the productions; by name and kind of the token ahead the production to use, and one more; how many kinds there are, the end
+-- among them; the names that a whole text may be of; by name, what it weighs, and whether each tree of it has a token
+pub record PlainTable : Type 0 where
+  pub productions : List Production
+  pub rows : List ℕ
+  pub width : ℕ
+  pub starts : List ℕ
+  pub weights : List ℕ
+  pub solid : List Bool
+
+abbrev pub production : List Symbol → Rule → Production
+production symbols r = record { head = r.head; unless = r.unless; body = slice_range symbols r.from r.to }
+
+abbrev pub plain : Table → PlainTable
+plain t = record {
+  productions = map (production t.symbols.now) t.rules.now;
+  rows = t.rows.now;
+  width = t.width;
+  starts = t.starts.now;
+  weights = t.weights.now;
+  solid = t.solid.now;
+}
+
+abbrev pub is_solid : PlainTable → ℕ → Bool
+is_solid t a = slice_index_or t.solid a false
+
+-- the entry of a name and a kind
+abbrev pub entry : PlainTable → ℕ → ℕ → ℕ
+entry t a k = cond (nat_lt k t.width) (slice_index t.rows (a * t.width + k)) 0
+
+-- the production with this number, if it is of this name and may be used before this kind
+abbrev pub usable : Option Production → ℕ → ℕ → Option Production
+usable None a k = None
+usable (Some r) a k = cond (nat_eq r.head a && not (nat_eq r.unless k)) (Some r) None
+
+-- what an entry says to use: the entry, and what stands for the name
+abbrev pub numbered : ℕ → Option Production → Option (ℕ × List Symbol)
+numbered q None = None
+numbered q (Some r) = Some (q, r.body)
+
+abbrev pub chosen_by : List Production → ℕ → ℕ → ℕ → Option (ℕ × List Symbol)
+chosen_by g zero a k = None
+chosen_by g (suc p) a k = numbered (suc p) (usable (slice_get g p) a k)
+
+-- the production to use for a name before a kind
+abbrev pub chosen : PlainTable → ℕ → ℕ → Option (ℕ × List Symbol)
+chosen t a k = chosen_by t.productions (entry t a k) a k

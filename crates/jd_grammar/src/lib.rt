@@ -1,0 +1,13 @@
+//! Grammars as tables, their trees, and one parser for every LL(1) table (Aho, Sethi and Ullman, Compilers, 4.4).
+#![tactic(auto)]
+
+mod fold;
+mod laws;
+mod machine;
+mod reading;
+mod table;
+
+pub use fold::{Nodes, Parts};
+pub use laws::{one_order, one_tree};
+pub use reading::{Refusal, parse};
+pub use table::{Rule, Symbol, Table};

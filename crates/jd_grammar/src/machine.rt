@@ -1,0 +1,92 @@
+ghost use Rattle.std.specs.Prelude.{◌≡◌, ◌++◌, ◌∷◌, [], IfOk, OnOk, reverse};
+ghost use Rattle.jd_grammar.specs.declared.table.Symbol.TheVariants.{Name};
+ghost use Rattle.jd_grammar.specs.Moves.{EndsIn, Expands, HasNoNameNext, Reads, Takes};
+ghost use Rattle.jd_grammar.specs.Tables.{plain};
+ghost use Rattle.jd_grammar.specs.Tests.{IsLl1};
+
+use crate::table::{Symbol, Table, choose};
+use jd_base::NoMemory;
+use std::alloc::Global;
+
+/// The symbols that are still to come, the next one last, and the preorder so far.
+#[derive(Drop)]
+pub(crate) struct Machine {
+    pub(crate) stack: Vec<Symbol>,
+    pub(crate) order: Vec<u16>,
+}
+
+// Puts symbols onto a stack, the first one last.
+fn push_all(stack: &mut Vec<Symbol>, symbols: &[Symbol]) -> Result<(), NoMemory>
+    ensures { OnOk result (stack.new.items ≡ stack.old.items ++ reverse symbols.now) }
+{
+    let mut left = symbols.len();
+    while left > 0 {
+        left -= 1;
+        stack.push(symbols[left])?;
+    }
+    Ok(())
+}
+
+impl Machine {
+    /// A name is to come, and nothing was read.
+    pub(crate) fn begun(alloc: Global, start: u8) -> Result<Machine, NoMemory>
+        ensures { IfOk result (λ m. (m.stack.items ≡ Name start ∷ []) × (m.order.items ≡ [])) }
+    {
+        let mut stack = Vec::new(alloc);
+        stack.push(Symbol::Name(start))?;
+        let order = Vec::new(alloc);
+        Ok(Machine { stack, order })
+    }
+
+    // Uses productions until a token is to come or nothing, with this kind ahead; whether there was one for each name.
+    fn expand(&mut self, table: &Table<'_>, kind: u8) -> Result<bool, NoMemory>
+        requires table { IsLl1 (plain table.now) }
+        ensures { IfOk result (Expands (plain table.now) kind self.old self.new) }
+    {
+        while let Some(Symbol::Name(name)) = self.stack.last() {
+            let Some((number, body)) = choose(table, *name, kind) else {
+                return Ok(false);
+            };
+            self.stack.pop();
+            self.order.push(number)?;
+            push_all(&mut self.stack, body)?;
+        }
+        Ok(true)
+    }
+
+    // Takes a token of this kind, if one is to come.
+    fn take(&mut self, kind: u8) -> Result<bool, NoMemory>
+        requires { HasNoNameNext self.old }
+        ensures { IfOk result (Takes kind self.old self.new) }
+    {
+        match self.stack.pop() {
+            Some(Symbol::Token(wanted)) if wanted == kind => {
+                self.order.push(0)?;
+                Ok(true)
+            }
+            _ => Ok(false),
+        }
+    }
+
+    /// Reads a token; whether a tree goes on with it.
+    pub(crate) fn read(&mut self, table: &Table<'_>, kind: u8) -> Result<bool, NoMemory>
+        requires table { IsLl1 (plain table.now) }
+        ensures { IfOk result (Reads (plain table.now) kind self.old self.new) }
+    {
+        if !self.expand(table, kind)? {
+            return Ok(false);
+        }
+        self.take(kind)
+    }
+
+    /// Whether a tree ends with the tokens that were read.
+    pub(crate) fn end(&mut self, table: &Table<'_>) -> Result<bool, NoMemory>
+        requires table { IsLl1 (plain table.now) }
+        ensures { IfOk result (EndsIn (plain table.now) self.old self.new) }
+    {
+        if !self.expand(table, 0)? {
+            return Ok(false);
+        }
+        Ok(self.stack.is_empty())
+    }
+}

@@ -1,0 +1,2 @@
+pub mod ByLength
+pub mod RunsOfSpecs

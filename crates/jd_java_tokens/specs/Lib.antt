@@ -1,0 +1,4 @@
+pub mod Contents
+pub mod Words
+pub mod Lexemes
+pub mod Unsupported

@@ -1,0 +1,12 @@
+//! What the grammar of Java's files sees of their tokens: kinds of words, numbers and signs (JLS 3.8 to 3.12), and runs of JML.
+#![tactic(auto)]
+
+mod lexeme;
+mod runs;
+mod unsupported;
+mod words;
+
+pub use lexeme::{Content, Lexeme};
+pub use runs::{kinds_of, lexemes};
+pub use unsupported::{first_unsupported, is_unsupported};
+pub use words::kind_of;
