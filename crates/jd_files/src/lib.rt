@@ -5,8 +5,6 @@ mod laws;
 mod program;
 mod reading;
 mod refusal;
-#[cfg(test)]
-mod tests;
 
 pub use laws::one_refusal;
 pub use program::classes_of;

@@ -6,7 +6,7 @@ use jd_classes::ClassRefusal;
 use jd_source::SourceRefusal;
 
 /// Why files are no program's.
-#[derive(Debug, Drop)]
+#[derive(Drop)]
 pub enum FilesRefusal {
     /// The file of this number, from 0, is no Java file.
     File(u32, SourceRefusal),

@@ -11,7 +11,7 @@ use jd_syntax::Unit;
 use std::alloc::Global;
 
 /// Why bytes are no Java file.
-#[derive(Debug, Drop)]
+#[derive(Drop)]
 pub enum SourceRefusal {
     /// They spell no tokens.
     Lexical(LexRefusal),

@@ -1,15 +1,14 @@
-//! Tests of code, terms, formulas, updates, sequents and trees of steps, over the crates that have them.
+//! Tests of calls whose conditions a reader of text does not tell: indices raised, terms put for indices and names, and a step
+//! below blocks.
 #![tactic(auto)]
 
 #[cfg(test)]
-mod code;
+mod blocks;
 #[cfg(test)]
-mod places;
+mod locations;
+#[cfg(test)]
+mod raised;
 #[cfg(test)]
 mod replaced;
 #[cfg(test)]
-mod scripts;
-#[cfg(test)]
-mod terms;
-#[cfg(test)]
-mod updates;
+mod tables;
