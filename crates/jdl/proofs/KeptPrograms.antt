@@ -11,8 +11,8 @@ use Rattle.jd_first_oblig.specs.Obligations.{obligation_sequent}
 use Rattle.jd_first_meaning.specs.SpelledPrograms.{IsProgramOf}
 use Rattle.jd_first_meaning.specs.ClosedPrograms.{task_of}
 use Rattle.jd_first_meaning.proofs.KeptPrograms.{closed_programs_are_kept}
-use Rattle.jdl.specs.Answers.{AreRead, HaveBytes}
-use Rattle.jdl.specs.Words.{replay_words}
+use Rattle.jd_answer.specs.Answers.{AreRead, HaveBytes}
+use Rattle.jd_answer.specs.Words.{replay_words}
 use Rattle.jdl.specs.Outcomes.{IsAccepted}
 use Rattle.jdl.specs.KeptPrograms.{EachCaseIsKept}
 

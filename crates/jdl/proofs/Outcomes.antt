@@ -4,17 +4,16 @@ use Rattle.jd_model.specs.Sequents.{PlainSequent}
 use Rattle.jd_sequent.specs.Trees.{PlainStep, ProofTree}
 use Rattle.jd_first_java.specs.Programs.{Program}
 use Rattle.jd_first_oblig.specs.Obligations.{obligation_name}
-use Rattle.jdl.specs.Answers.{HasProof, AreRead, IsAnswer, usage, many_files, long_proof, long_file, refused, judged}
-use Rattle.jdl.specs.FileAnswers.{IsRefusal}
-use Rattle.jdl.specs.Sources.{AreProgram}
-use Rattle.jdl.specs.Statuses.{IsJudged}
+use Rattle.jd_answer.specs.Answers.{HasProof, AreRead, IsAnswer, usage, many_files, long_proof, long_file, refused, judged}
+use Rattle.jd_answer.specs.FileAnswers.{IsRefusal}
+use Rattle.jd_answer.specs.Sources.{AreProgram}
 use Rattle.jdl.specs.Outcomes.{AreUnderstood, IsAccepted, IsNotAccepted, IsSourceRefused, IsScriptRefused, IsPastLimit}
 use Rattle.jdl.specs.Outcomes as outcome
-use Rattle.jdl.specs.declared.status.Status.{Status}
-use Rattle.jdl.specs.declared.status.Status.TheVariants.{Done, NotAccepted, WriteFault, RefusedSource, RefusedScript, Limit}
-use Rattle.jdl.proofs.FileAnswers.{refusal_status}
-use Rattle.jdl.proofs.Derivations.{OneWay, HasNoCause}
-use Rattle.jdl.proofs.ProofAnswers.{proof_done, proof_not_accepted, proof_no_source, proof_refused, proof_limited}
+use Rattle.jd_answer.specs.declared.status.Status.{Status}
+use Rattle.jd_answer.specs.declared.status.Status.TheVariants.{Done, NotAccepted, WriteFault, RefusedSource, RefusedScript, Limit}
+use Rattle.jd_answer.proofs.FileAnswers.{refusal_status}
+use Rattle.jd_answer.proofs.Derivations.{OneWay, HasNoCause}
+use Rattle.jd_answer.proofs.ProofAnswers.{proof_done, proof_not_accepted, proof_no_source, proof_refused, proof_limited}
 
 -- a call that ends so, and not by a fault of writing, was answered so
 pub answered_so : (ended status wanted : Status) → (ended ≡ status) ⊎ (ended ≡ WriteFault) → (wanted ≡ WriteFault → ⊥) → ended ≡ wanted → status ≡ wanted
@@ -27,10 +26,6 @@ answered_so ended status wanted (inr fault) other is = absurd (other (sym is ∙
 no_refusal : (names files : List (List ℕ)) (status : Status) (text : List ℕ) → IsRefusal names files status text → (status ≡ RefusedSource → ⊥) → (status ≡ Limit → ⊥) → ⊥
 no_refusal names files status text refusal not_source not_limit =
     elim (refusal_status names files status text refusal) [ inl is ↦ not_source is | inr is ↦ not_limit is ]
-
-pub refusal_is_judged : (names files : List (List ℕ)) (status : Status) (text : List ℕ) → IsRefusal names files status text → IsJudged status
-refusal_is_judged names files status text refusal =
-    elim (refusal_status names files status text refusal) [ inl is ↦ rw is tt | inr is ↦ rw is tt ]
 
 -- ---- answers
 

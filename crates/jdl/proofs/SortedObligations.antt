@@ -11,7 +11,7 @@ use Rattle.jd_first_java.specs.declared.syntax.Comparison.{Comparison}
 use Rattle.jd_first_java.specs.declared.syntax.Comparison.TheVariants.{Equal, NotEqual, Less, LessOrEqual, Greater, GreaterOrEqual}
 use Rattle.jd_first_java.specs.Programs.{Operand, Named, Literal, Result, Condition, Statement, Declare, Assign, ReturnValue, Program}
 use Rattle.jd_first_oblig.specs.Obligations.{operand_term, comparison_formula, condition_formula, joined_conditions, clause_members, in_range, entry_members, normal_members, value_expr, statement_code, parameter_pair}
-use Rattle.jdl.specs.Answers.{AcceptsObligations}
+use Rattle.jd_answer.specs.Answers.{AcceptsObligations}
 
 conjunction_sorted : (l : List PlainFormula) → AllSorted l → SortedFormula (conjunction l)
 conjunction_sorted [] w = tt

@@ -3,7 +3,7 @@ use Rattle.std.specs.Prelude.{◌≡◌, ℕ, List, [], ◌∷◌, Option, Some}
 use Rattle.jd_model.specs.Cases.{Case, SpecifiedProgram}
 use Rattle.jd_model.specs.KeptCases.{Kept}
 use Rattle.jd_first_meaning.specs.SpelledPrograms.{Spells}
-use Rattle.jdl.specs.Words.{replay_words}
+use Rattle.jd_answer.specs.Words.{replay_words}
 
 -- the words name one Java file, and its bytes spell the program; more than one have no obligations yet
 pub record FileSpells (words : List (List ℕ)) (contents : List ℕ → Option (List ℕ)) (p : SpecifiedProgram) : Type 0 where

@@ -1,11 +1,4 @@
-pub mod Answers
-pub mod FileAnswers
+pub mod FirstReplay
 pub mod KeptPrograms
 pub mod Outcomes
-pub mod Refusing
-pub mod Reports
-pub mod Scripts
-pub mod Sources
 pub mod Statuses
-pub mod Understanding
-pub mod Words

@@ -1,8 +1,6 @@
 -- What each status of a call tells.
 use Rattle.std.specs.Prelude.{◌≡◌, ℕ, ◌<◌, ◌≤◌, List, [], ◌∷◌, ◌++◌, length, take, Option, Some}
-use Rattle.std.specs.List.{Contains}
 use Rattle.std.specs.Option.{ForSome}
-use Rattle.jd_base.specs.Faults.{Rose}
 use Rattle.jd_model.specs.Sequents.{PlainSequent}
 use Rattle.jd_sequent.specs.Trees.{PlainStep, ProofTree}
 use Rattle.jd_sequent.specs.Derives.{Derives}
@@ -11,14 +9,14 @@ use Rattle.jd_bracketed.specs.Tokens.{tokens_of}
 use Rattle.jd_scripts.specs.Answers as script
 use Rattle.jd_proofs.specs.Outcomes.{NoFile, IsOutcome}
 use Rattle.jd_first_oblig.specs.Obligations.{obligation_name, obligation_sequent}
-use Rattle.jdl.specs.Words.{replay_words}
+use Rattle.jd_answer.specs.Words.{replay_words}
 use Rattle.jd_files.specs.Files.{files_limit}
-use Rattle.jdl.specs.FileAnswers.{IsRefusal}
-use Rattle.jdl.specs.Sources.{AreProgram}
-use Rattle.jdl.specs.Reports.{IsReport}
-use Rattle.jdl.specs.Answers.{proof_limit, report_limit, HaveLongFile, IsProofRead, AreRead, HasProof, IsAnswer}
-use Rattle.jdl.specs.declared.status.Status.{Status}
-use Rattle.jdl.specs.declared.status.Status.TheVariants.{RefusedSource, Limit}
+use Rattle.jd_answer.specs.FileAnswers.{IsRefusal}
+use Rattle.jd_answer.specs.Sources.{AreProgram}
+use Rattle.jd_answer.specs.Reports.{IsReport}
+use Rattle.jd_answer.specs.Answers.{proof_limit, report_limit, HaveLongFile, IsProofRead, AreRead, HasProof, IsAnswer}
+use Rattle.jd_answer.specs.declared.status.Status.{Status}
+use Rattle.jd_answer.specs.declared.status.Status.TheVariants.{RefusedSource, Limit}
 
 -- ---- what is written
 
@@ -34,33 +32,6 @@ pub record IsCutShort (leads : Program → PlainSequent → PlainStep → List P
   pub text : List ℕ
   pub answer : IsAnswer leads causes words contents status text
   pub written : ForSome before (λ told. (k : ℕ) × (k ≤ length text) × (after ≡ Some (told ++ take k text)))
-
--- ---- faults of reading
-
--- the words name this file
-pub record IsNamed (words : List (List ℕ)) (name : List ℕ) : Type 0 where
-  pub proof : List ℕ
-  pub names : List (List ℕ)
-  pub words_ : replay_words words ≡ Some (proof, names)
-  pub among : Contains (proof ∷ names) name
-
--- the count of faults of one of these files rose
-pub record HasRisen (names : List (List ℕ)) (before after : List ℕ → ℕ) : Type 0 where
-  pub name : List ℕ
-  pub among : Contains names name
-  pub rose : Rose (before name) (after name)
-
--- the words name files, and the count of faults of one of them rose
-pub record IsReadFault (words : List (List ℕ)) (before after : List ℕ → ℕ) : Type 0 where
-  pub name : List ℕ
-  pub named : IsNamed words name
-  pub rose : Rose (before name) (after name)
-
--- the words name a file whose count of faults is greater than before
-pub record HasMoreFaults (words : List (List ℕ)) (before after : List ℕ → ℕ) : Type 0 where
-  pub name : List ℕ
-  pub named : IsNamed words name
-  pub more : before name < after name
 
 -- ---- what is accepted and what is refused
 

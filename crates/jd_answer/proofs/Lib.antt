@@ -1,0 +1,17 @@
+pub mod Derivations
+pub mod FileAnswers
+pub mod Files
+pub mod Judged
+pub mod Lengths
+pub mod Literals
+pub mod Names
+pub mod ProofAnswers
+pub mod Reports
+pub mod Reading
+pub mod Refusals
+pub mod Replays
+pub mod ScriptKinds
+pub mod Texts
+pub mod Understanding
+pub mod Unique
+pub mod Verdicts

@@ -1,0 +1,26 @@
+use Rattle.std.proofs.Common.{option_map}
+use Rattle.std.proofs.lemmas.Result.{IfOk-weaker}
+use Rattle.jd_first_java.specs.Reads.{program_view}
+use Rattle.jd_proofs.specs.Answers.{tree_view}
+use Rattle.jd_answer.specs.Answers.{leads_of, causes_of, IsProofAnswer}
+use Rattle.jd_answer.specs.Scripts.{IsUnreadAnswer}
+use Rattle.jd_answer.specs.Statuses.{IsJudged}
+use Rattle.jd_answer.proofs.Judged.{unread_answer, unread_is_judged, limited_report}
+use Rattle.jd_answer.proofs.answer.answer_for.Goals as goal
+
+pub returns-in-Err-clause-answer : goal.returns-in-Err-clause-answer
+returns-in-Err-clause-answer g c =
+    let leads = leads_of (g.R.RuleSet.instance c.args.rules.now) (program_view c.args.program.now) in
+    let causes = causes_of (g.R.RuleSet.cause c.args.rules.now) (program_view c.args.program.now) in
+    IfOk-weaker c.unread.result (λ a. IsUnreadAnswer c.args.name.now c.in-Err.refusal a.status a.text.items) (λ a. IsProofAnswer leads causes (program_view c.args.program.now) c.args.name.now c.args.proof.now a.status a.text.items)
+    (λ a tells. unread_answer leads causes (program_view c.args.program.now) c.args.name.now c.args.proof.now _ c.in_ok-obligation.ensures c.in-Err.refusal a.status a.text.items c.in-Err.ensures tells) c.unread.ensures
+
+pub returns-in-Err-clause-status : goal.returns-in-Err-clause-status
+returns-in-Err-clause-status g c =
+    IfOk-weaker c.unread.result (λ a. IsUnreadAnswer c.args.name.now c.in-Err.refusal a.status a.text.items) (λ a. IsJudged a.status)
+    (λ a tells. unread_is_judged c.args.name.now c.in-Err.refusal a.status a.text.items tells) c.unread.ensures
+
+pub returns-clause-answer : goal.returns-clause-answer
+returns-clause-answer g c =
+    limited_report (leads_of (g.R.RuleSet.instance c.args.rules.now) (program_view c.args.program.now)) (causes_of (g.R.RuleSet.cause c.args.rules.now) (program_view c.args.program.now)) (program_view c.args.program.now) c.args.name.now c.args.proof.now _
+    c.in_ok-obligation.ensures (option_map tree_view c.in-Ok.proof) _ _ _ _ c.in-Ok.ensures c.in_ok-report.ensures.report c.in_ok-answer.ensures.long c.in_ok-answer.ensures.short

@@ -1,0 +1,10 @@
+pub mod Answers
+pub mod FileAnswers
+pub mod ReadFaults
+pub mod Refusing
+pub mod Reports
+pub mod Scripts
+pub mod Sources
+pub mod Statuses
+pub mod Understanding
+pub mod Words

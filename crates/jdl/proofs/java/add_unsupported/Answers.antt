@@ -1,7 +1,0 @@
-use Rattle.std.proofs.Common.{codes}
-use Rattle.jdl.specs.Reports.{placed_text}
-use Rattle.jdl.proofs.Refusals.{named_last}
-use Rattle.jdl.proofs.java.add_unsupported.Goals as goal
-
-pub returns : goal.returns
-returns c = named_last c.args.out.now.items (placed_text (codes "Unsupported") c.args.at) c.args.what.now _ _ _ c.in_ok-add_placed.ensures c.in_ok-push.ensures.items c.in_ok-extend_from_slice.ensures.items

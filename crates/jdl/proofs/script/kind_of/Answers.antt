@@ -1,5 +1,0 @@
-use Rattle.jdl.proofs.ScriptKinds.{duplicate_told}
-use Rattle.jdl.proofs.script.kind_of.Goals as goal
-
-pub returns-in_ok-named_kind-in-DuplicateProof : goal.returns-in_ok-named_kind-in-DuplicateProof
-returns-in_ok-named_kind-in-DuplicateProof c = duplicate_told c.args.refusal.now c.in-DuplicateProof.name c.in_ok-named_kind-in-DuplicateProof.field-0.items c.deref.result.now c.in-DuplicateProof.is c.deref.ensures.value c.in_ok-named_kind-in-DuplicateProof.ensures

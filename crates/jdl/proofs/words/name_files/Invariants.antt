@@ -1,7 +1,0 @@
-use Rattle.std.proofs.Common.{◌≡◌, take}
-use Rattle.std.specs.List.{list_all}
-use Rattle.jdl.specs.Words.{is_file_name, word_texts}
-use Rattle.jdl.proofs.words.name_files.Given as goal
-
-abbrev pub invariant-loop-word : goal.invariant-loop-word
-invariant-loop-word l = l.all ≡ list_all is_file_name (take l.word-index (word_texts l.words))

@@ -1,0 +1,91 @@
+//! Replays proofs that Java methods meet their JML contracts.
+#![tactic(auto)]
+
+ghost use Rattle.std.specs.Prelude.{◌≡◌, ◌≢◌, ◌<◌, ◌≤◌, ◌++◌, ◌⊎◌, ℕ, Some, None, length, take};
+ghost use Rattle.std.specs.Option.{ForSome};
+ghost use Rattle.jd_base.specs.Faults.{Rose};
+ghost use Rattle.jd_answer.specs.Words.{word_texts, replay_words};
+ghost use Rattle.jd_answer.specs.Answers.{IsTold};
+ghost use Rattle.jd_answer.specs.Statuses.{IsWritten};
+ghost use Rattle.jd_answer.specs.ReadFaults.{IsReadFault, HasMoreFaults};
+ghost use Rattle.jdl.specs.FirstReplay.{first_leads, first_causes};
+ghost use Rattle.jdl.specs.KeptPrograms.{EachCaseIsKept};
+ghost use Rattle.jdl.specs.Outcomes.{IsAnswered, IsCutShort, IsAccepted, IsNotAccepted, IsSourceRefused, IsScriptRefused, IsPastLimit};
+ghost use Rattle.jdl.specs.Statuses.{MayEndUsage};
+
+pub use jd_answer::Status;
+use jd_answer::{Answer, Stop, answer_to};
+use jd_base::write_all;
+pub use jd_base::{Library, Sink};
+use jd_first_rules::FirstRules;
+use std::alloc::Global;
+
+// Writes the text of an answer.
+fn write_answer<S: Sink>(sink: &mut S, answer: &Answer) -> Status
+    ensures either { (result ≡ answer.now.status) ⊎ (result ≡ Status.WriteFault) }
+    ensures whole { result ≢ Status.WriteFault → ForSome (S.bytes sink.old)
+        (λ told. S.bytes sink.new ≡ Some (told ++ answer.now.text.items)) }
+    ensures prefix { result ≡ Status.WriteFault → answer.now.status ≢ Status.WriteFault → ForSome (S.bytes sink.old)
+        (λ told. (k : ℕ) × (k ≤ length answer.now.text.items) × (S.bytes sink.new ≡ Some (told ++ take k answer.now.text.items))) }
+    ensures fault { result ≡ Status.WriteFault → answer.now.status ≢ Status.WriteFault
+        → Rose (S.faults sink.old) (S.faults sink.new) }
+    ensures always_fault { S.faults sink.old < S.faults sink.new → result ≡ Status.WriteFault }
+{
+    match write_all(sink, &answer.text) {
+        Ok(()) => answer.status,
+        Err(_) => Status::WriteFault,
+    }
+}
+
+/// Does what the words say with the files of a library, and writes the report to a sink: `replay
+/// PROOF FILE` replays a proof script for the method of a Java file. Status 0 exactly where the
+/// script derives the method's obligation with no goal left, and then the method keeps its contract.
+pub fn run<L: Library, S: Sink>(
+    alloc: Global,
+    words: &[String],
+    library: &mut L,
+    sink: &mut S,
+) -> Status
+    // Status 0 of `replay` means that each case of the program in the Java file is kept: from each state that
+    // meets the case's entry, each run that ends meets its exit, and where the contract asks for it the run ends.
+    ensures kept { result ≡ Status.Done → IsTold (word_texts words.now) (L.contents library.old)
+        → EachCaseIsKept (word_texts words.now) (L.contents library.old) }
+
+    // What is written: the whole answer, a first part of it, or nothing.
+    ensures answer { IsWritten result → IsTold (word_texts words.now) (L.contents library.old)
+        → IsAnswered first_leads first_causes (word_texts words.now) (L.contents library.old) (S.bytes sink.old) (S.bytes sink.new) result }
+    ensures prefix { result ≡ Status.WriteFault → IsTold (word_texts words.now) (L.contents library.old)
+        → IsCutShort first_leads first_causes (word_texts words.now) (L.contents library.old) (S.bytes sink.old) (S.bytes sink.new) }
+    ensures unwritten { (result ≡ Status.ReadFault) ⊎ (result ≡ Status.NoMemory)
+        → S.bytes sink.new ≡ S.bytes sink.old }
+
+    // Words that are no command are answered so, and no others, unless the answer is not written.
+    ensures usage { result ≡ Status.Usage → replay_words (word_texts words.now) ≡ None }
+    ensures always_usage { replay_words (word_texts words.now) ≡ None → MayEndUsage result }
+
+    // Faults of reading and of writing are never hidden, and never invented.
+    ensures read_fault { result ≡ Status.ReadFault
+        → IsReadFault (word_texts words.now) (L.faults library.old) (L.faults library.new) }
+    ensures always_read_fault { HasMoreFaults (word_texts words.now) (L.faults library.old) (L.faults library.new)
+        → result ≡ Status.ReadFault }
+    ensures write_fault { result ≡ Status.WriteFault → Rose (S.faults sink.old) (S.faults sink.new) }
+    ensures always_write_fault { S.faults sink.old < S.faults sink.new → result ≡ Status.WriteFault }
+
+    // What each status tells of the files.
+    ensures accepted { result ≡ Status.Done → IsTold (word_texts words.now) (L.contents library.old)
+        → IsAccepted first_leads (word_texts words.now) (L.contents library.old) }
+    ensures not_accepted { result ≡ Status.NotAccepted → IsTold (word_texts words.now) (L.contents library.old)
+        → IsNotAccepted first_leads (word_texts words.now) (L.contents library.old) }
+    ensures refused_source { result ≡ Status.RefusedSource → IsTold (word_texts words.now) (L.contents library.old)
+        → IsSourceRefused (word_texts words.now) (L.contents library.old) }
+    ensures refused_script { result ≡ Status.RefusedScript → IsTold (word_texts words.now) (L.contents library.old)
+        → IsScriptRefused (word_texts words.now) (L.contents library.old) }
+    ensures limit { result ≡ Status.Limit → IsTold (word_texts words.now) (L.contents library.old)
+        → IsPastLimit first_leads first_causes (word_texts words.now) (L.contents library.old) }
+{
+    match answer_to(alloc, &FirstRules, words, library) {
+        Ok(answer) => write_answer(sink, &answer),
+        Err(Stop::ReadFault) => Status::ReadFault,
+        Err(Stop::NoMemory) => Status::NoMemory,
+    }
+}
