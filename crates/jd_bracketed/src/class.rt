@@ -2,7 +2,7 @@ ghost use Rattle.std.specs.Prelude.{◌≡◌};
 ghost use Rattle.jd_bracketed.specs.Bytes as bytes;
 
 /// What a byte of a text form is.
-#[derive(Clone, Copy, Debug)]
+#[derive(Clone, Copy)]
 pub enum Class {
     /// White space, or the end of a comment's line.
     Blank,

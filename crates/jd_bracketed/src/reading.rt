@@ -13,7 +13,7 @@ use jd_syntax::Sx;
 use std::alloc::Global;
 
 /// Why a step failed.
-#[derive(Clone, Copy, Debug)]
+#[derive(Clone, Copy)]
 pub enum Stop {
     /// No expression goes on so.
     Syntax,
@@ -24,7 +24,7 @@ pub enum Stop {
 }
 
 /// What stands before the next token.
-#[derive(Debug, Drop)]
+#[derive(Drop)]
 pub enum Reading {
     /// Nothing.
     Before,

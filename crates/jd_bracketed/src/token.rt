@@ -1,5 +1,5 @@
 /// What a token of a text form is.
-#[derive(Clone, Copy, PartialEq, Eq, Debug)]
+#[derive(Clone, Copy, PartialEq, Eq)]
 pub enum Kind<'a> {
     /// `(`
     Open,
@@ -16,7 +16,7 @@ pub enum Kind<'a> {
 }
 
 /// A token and the offset of its first byte.
-#[derive(Clone, Copy, PartialEq, Eq, Debug)]
+#[derive(Clone, Copy, PartialEq, Eq)]
 pub struct Token<'a> {
     /// What it is.
     pub kind: Kind<'a>,

@@ -10,7 +10,7 @@ use jd_lexemes::Lexeme;
 use std::alloc::Global;
 
 /// A comparison of two words.
-#[derive(Clone, Copy, Debug)]
+#[derive(Clone, Copy)]
 pub struct SpelledCondition<'t> {
     pub left: &'t [u8],
     pub comparison: Comparison,
@@ -18,7 +18,7 @@ pub struct SpelledCondition<'t> {
 }
 
 /// A statement whose operand is a word.
-#[derive(Clone, Copy, Debug)]
+#[derive(Clone, Copy)]
 pub enum SpelledStatement<'t> {
     Declare(&'t [u8], &'t [u8]),
     Assign(&'t [u8], &'t [u8]),
@@ -26,7 +26,7 @@ pub enum SpelledStatement<'t> {
 }
 
 /// A program whose operands are words, of which it isn't known what they name.
-#[derive(Debug, Drop)]
+#[derive(Drop)]
 pub struct Spelled<'t> {
     pub class: &'t [u8],
     pub method: &'t [u8],

@@ -1,5 +1,5 @@
 /// An operator that compares two integers (JLS 15.20.1, 15.21.1).
-#[derive(Clone, Copy, PartialEq, Eq, Debug)]
+#[derive(Clone, Copy, PartialEq, Eq)]
 pub enum Comparison {
     /// `==`
     Equal,
@@ -16,7 +16,7 @@ pub enum Comparison {
 }
 
 /// What a condition compares, and what is assigned or returned.
-#[derive(Debug, Drop)]
+#[derive(Drop)]
 pub enum Operand {
     /// A parameter or a local variable, by its name; in conditions a parameter.
     Named(Vec<u8>),
@@ -27,7 +27,7 @@ pub enum Operand {
 }
 
 /// A comparison of two operands.
-#[derive(Debug, Drop)]
+#[derive(Drop)]
 pub struct Condition {
     /// The operand before the operator.
     pub left: Operand,
@@ -38,7 +38,7 @@ pub struct Condition {
 }
 
 /// A statement of the method's body.
-#[derive(Debug, Drop)]
+#[derive(Drop)]
 pub enum Statement {
     /// `int x = e;` declares a local variable with its first value (JLS 14.4).
     Declare(Vec<u8>, Operand),
@@ -49,7 +49,7 @@ pub enum Statement {
 }
 
 /// A class with one static method from integers to an integer.
-#[derive(Debug, Drop)]
+#[derive(Drop)]
 pub struct Program {
     /// The name of the class.
     pub class: Vec<u8>,

@@ -16,7 +16,7 @@ use jd_term::{Elementary, Term};
 use std::alloc::Global;
 
 /// What a rule makes of the code of a modality.
-#[derive(Debug, Drop)]
+#[derive(Drop)]
 pub struct Effect {
     /// The update before the modality, where there is one.
     pub update: Option<Elementary>,

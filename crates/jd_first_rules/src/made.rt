@@ -17,7 +17,7 @@ use jd_term::Formula;
 use std::alloc::Global;
 
 /// What a rule makes of the formula that it acts on.
-#[derive(Debug, Drop)]
+#[derive(Drop)]
 pub enum Made {
     /// A premise for each goal.
     Goals(Vec<Goal>),

@@ -12,7 +12,7 @@ use jd_term::Formula;
 use std::alloc::Global;
 
 /// What stands in a premise for the formula that was found.
-#[derive(Debug, Drop)]
+#[derive(Drop)]
 pub struct Goal {
     /// The formulas in its place.
     pub here: Vec<Formula>,

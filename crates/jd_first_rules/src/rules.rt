@@ -1,5 +1,5 @@
 /// What a rule acts on.
-#[derive(Clone, Copy, PartialEq, Eq, Debug)]
+#[derive(Clone, Copy, PartialEq, Eq)]
 pub enum Kind {
     /// A formula on the right, with one assumed on the left.
     Closing,

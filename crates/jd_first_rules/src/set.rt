@@ -23,7 +23,7 @@ use std::alloc::Global;
 
 /// The twelve rules as one set. It takes the sequents whose updates and assignments have right sides
 /// of their variables' sorts: in others `simplify` would not be sound.
-#[derive(Clone, Copy, Debug)]
+#[derive(Clone, Copy)]
 pub struct FirstRules;
 
 // What the rule makes of the formula at the step's place, and that place.

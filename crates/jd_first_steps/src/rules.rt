@@ -1,5 +1,5 @@
 /// The rules of the first replay.
-#[derive(Clone, Copy, PartialEq, Eq, Debug)]
+#[derive(Clone, Copy, PartialEq, Eq)]
 pub enum FirstRule {
     /// A formula on the right that stands on the left too.
     Close,

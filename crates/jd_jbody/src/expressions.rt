@@ -22,7 +22,7 @@ use jd_jtokens::Terminal;
 use std::alloc::Global;
 
 /// What a name alone may turn out to be.
-#[derive(Clone, Copy, Debug)]
+#[derive(Clone, Copy)]
 pub enum Turn {
     /// The type of a local, or a label.
     Statement,

@@ -1,5 +1,5 @@
 /// What a call names.
-#[derive(Clone, Copy, Debug)]
+#[derive(Clone, Copy)]
 pub enum Called<'a> {
     /// A method of this name, with or without an object before it: `m(..)`, `e.m(..)` (JLS 15.12).
     Method(&'a [u8]),

@@ -1,5 +1,5 @@
 /// Why a program may not have a member, and where the member's name stands: the file's number and the offset in it.
-#[derive(Clone, Copy, PartialEq, Eq, Debug)]
+#[derive(Clone, Copy, PartialEq, Eq)]
 pub enum Clash {
     /// A second variable of the name, or a second constructor, in its class (JLS 8.3, 8.8).
     DuplicateMember {

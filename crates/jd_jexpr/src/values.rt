@@ -2,7 +2,7 @@ use jd_jtokens::{Count, Operator};
 use jd_syntax::Expr;
 
 /// What may follow or hold an expression, by its form.
-#[derive(Clone, Copy, Debug)]
+#[derive(Clone, Copy)]
 pub enum Kind {
     /// A name, a member, an element or `this`: what `=` and `++` may change, as far as the grammar tells.
     Target,
@@ -25,7 +25,7 @@ pub enum Kind {
 }
 
 /// What stands before an operand (JLS 15.15).
-#[derive(Clone, Copy, Debug)]
+#[derive(Clone, Copy)]
 pub enum Prefix {
     /// `+`, `-` or `!`
     Signed(Operator),

@@ -5,7 +5,7 @@ use jd_base::NoMemory;
 use std::alloc::{AllocError, AllocFailed};
 
 /// Why the heads of the classes are no program's. A place is the file's number and an offset in it.
-#[derive(Clone, Copy, PartialEq, Eq, Debug)]
+#[derive(Clone, Copy, PartialEq, Eq)]
 pub enum HeadRefusal {
     /// The class of this name has the name of an earlier class (JLS 7.6).
     DuplicateClass {

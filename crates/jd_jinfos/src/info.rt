@@ -2,7 +2,7 @@ use jd_base::{ClassId, FieldId, MethodId};
 use jd_syntax::{ClassDecl, JavaType};
 
 /// A class (JLS 8.1).
-#[derive(Debug, Drop)]
+#[derive(Drop)]
 pub struct ClassInfo {
     /// Its name.
     pub name: Vec<u8>,
@@ -23,7 +23,7 @@ pub struct ClassInfo {
 }
 
 /// A field (JLS 8.3).
-#[derive(Debug, Drop)]
+#[derive(Drop)]
 pub struct FieldInfo {
     /// Its name.
     pub name: Vec<u8>,
@@ -34,7 +34,7 @@ pub struct FieldInfo {
 }
 
 /// A method or a constructor (JLS 8.4, 8.8).
-#[derive(Debug, Drop)]
+#[derive(Drop)]
 pub struct MethodInfo {
     /// Its name; a constructor's is its class's.
     pub name: Vec<u8>,
@@ -53,7 +53,7 @@ pub struct MethodInfo {
 }
 
 /// What a class declares itself, by its numbers.
-#[derive(Debug, Drop)]
+#[derive(Drop)]
 pub struct OwnMembers {
     /// Its fields in the order of their declaration (JLS 8.3).
     pub fields: Vec<FieldId>,

@@ -2,7 +2,7 @@ use jd_jexpr::{TypeTokens, Value, ValueList};
 use jd_syntax::{Declarator, Handler, Stmt};
 
 /// JML before a loop, a member or a parameter: a run of JML tokens, and where it stands.
-#[derive(Clone, Copy, Debug)]
+#[derive(Clone, Copy)]
 pub struct Annotation {
     /// The number of its first token in the file, from 0.
     pub from: u32,
@@ -88,7 +88,7 @@ pub struct Finally {
 }
 
 /// `for (`, with the JML before it.
-#[derive(Clone, Copy, Debug)]
+#[derive(Clone, Copy)]
 pub struct ForOpen {
     /// The JML before it.
     pub annotation: Option<Annotation>,
@@ -110,7 +110,7 @@ pub enum ForHead {
 }
 
 /// `break` or `continue` (JLS 14.15, 14.16).
-#[derive(Clone, Copy, Debug)]
+#[derive(Clone, Copy)]
 pub enum Jump {
     /// `break`
     Break,

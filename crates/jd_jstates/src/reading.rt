@@ -36,7 +36,7 @@ pub enum Frame {
 }
 
 /// Where names are declared.
-#[derive(Clone, Copy, Debug)]
+#[derive(Clone, Copy)]
 pub enum Declaration {
     /// In a block, with the offset of `final`, where it stands.
     OfLocal(Option<u32>),
@@ -95,7 +95,7 @@ pub enum Hole {
 }
 
 /// A word behind which `(` has to come.
-#[derive(Clone, Copy, Debug)]
+#[derive(Clone, Copy)]
 pub enum Opening {
     /// `if`
     OpensIf(u32),

@@ -9,7 +9,7 @@ use jd_lex::Token;
 use std::alloc::Global;
 
 /// A terminal, and the offset of its first byte; for a run of JML, of its first token's.
-#[derive(Clone, Copy, Debug)]
+#[derive(Clone, Copy)]
 pub struct Placed<'a> {
     /// What stands there.
     pub terminal: Terminal<'a>,

@@ -1,5 +1,5 @@
 /// A sign that may stand between operands or before one (JLS 3.12).
-#[derive(Clone, Copy, Debug)]
+#[derive(Clone, Copy)]
 pub enum Operator {
     /// `||`
     OrOr,
@@ -32,7 +32,7 @@ pub enum Operator {
 }
 
 /// `++` or `--` (JLS 15.14.2, 15.15.1).
-#[derive(Clone, Copy, Debug)]
+#[derive(Clone, Copy)]
 pub enum Count {
     /// `++`
     Increment,
@@ -41,7 +41,7 @@ pub enum Count {
 }
 
 /// The sign of an assignment (JLS 15.26).
-#[derive(Clone, Copy, Debug)]
+#[derive(Clone, Copy)]
 pub enum Assignment {
     /// `=`
     Set,
@@ -58,7 +58,7 @@ pub enum Assignment {
 }
 
 /// A literal that is a word (JLS 3.10.3, 3.10.8).
-#[derive(Clone, Copy, Debug)]
+#[derive(Clone, Copy)]
 pub enum Literal {
     /// `true`
     True,
@@ -69,7 +69,7 @@ pub enum Literal {
 }
 
 /// What stands in no expression.
-#[derive(Clone, Copy, Debug)]
+#[derive(Clone, Copy)]
 pub enum Mark {
     /// `;`
     Semicolon,
@@ -126,7 +126,7 @@ pub enum Mark {
 }
 
 /// What the grammar sees of a token (JLS 3.8 to 3.12).
-#[derive(Clone, Copy, Debug)]
+#[derive(Clone, Copy)]
 pub enum Terminal<'a> {
     /// A literal from 0 to 2147483648.
     Number(u32),

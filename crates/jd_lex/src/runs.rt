@@ -8,7 +8,7 @@ ghost use Rattle.jd_lex.specs.Lens.{test_of, Head, ClosesAt};
 use crate::starts::{ends_line, is_white, is_word_start};
 
 /// A kind of bytes.
-#[derive(Clone, Copy, PartialEq, Eq, Debug)]
+#[derive(Clone, Copy, PartialEq, Eq)]
 pub enum ByteKind {
     /// White space.
     White,

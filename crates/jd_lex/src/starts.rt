@@ -4,7 +4,7 @@ ghost use Rattle.jd_lex.specs.Parts as parts;
 ghost use Rattle.jd_lex.specs.Bytes as bytes;
 
 /// What the first two bytes of a text begin.
-#[derive(Clone, Copy, PartialEq, Eq, Debug)]
+#[derive(Clone, Copy, PartialEq, Eq)]
 pub enum Start {
     /// White space.
     White,

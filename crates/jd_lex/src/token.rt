@@ -6,7 +6,7 @@ use std::alloc::{AllocError, AllocFailed};
 use thiserror::Error;
 
 /// What a token is.
-#[derive(Debug, Drop)]
+#[derive(Drop)]
 pub enum TokenKind {
     /// A name or a keyword (JLS 3.8, 3.9); in JML also one that begins with a backslash, which it
     /// keeps (JML Reference Manual 4.6).
@@ -18,7 +18,7 @@ pub enum TokenKind {
 }
 
 /// A token and the offsets of its bytes.
-#[derive(Debug, Drop)]
+#[derive(Drop)]
 pub struct Token {
     /// What it is.
     pub kind: TokenKind,

@@ -8,7 +8,7 @@ use jd_base::NoMemory;
 use std::alloc::Global;
 
 /// A lexeme.
-#[derive(Clone, Copy, Debug)]
+#[derive(Clone, Copy)]
 pub struct Lexeme<'a> {
     /// Its bytes.
     pub text: &'a [u8],

@@ -4,7 +4,7 @@ use jd_term::{Formula, Loc, Term};
 
 /// One case of a method's contract for one exact class (The KeY Book, 8.2 and 8.3; JML Reference
 /// Manual, 9.6). Its formulas, locations and terms have the names of that class's obligation.
-#[derive(Debug, Drop)]
+#[derive(Drop)]
 pub struct CaseForm {
     /// The method or constructor.
     pub method: MethodId,
@@ -29,7 +29,7 @@ pub struct CaseForm {
 }
 
 /// The invariants that a class declares itself (JML Reference Manual, 8.2).
-#[derive(Debug, Drop)]
+#[derive(Drop)]
 pub struct InvForm {
     /// The class.
     pub class: ClassId,
@@ -38,7 +38,7 @@ pub struct InvForm {
 }
 
 /// The body of a method or constructor.
-#[derive(Debug, Drop)]
+#[derive(Drop)]
 pub struct BodyForm {
     /// The method or constructor.
     pub method: MethodId,
@@ -53,7 +53,7 @@ pub struct BodyForm {
 }
 
 /// The tables of a program's contracts, invariants and bodies (The KeY Book, 8.2 and 8.3).
-#[derive(Debug, Drop)]
+#[derive(Drop)]
 pub struct Contracts {
     /// The cases of the methods' contracts.
     pub cases: Vec<CaseForm>,

@@ -1,7 +1,7 @@
 use jd_term::{Formula, Loc, Term};
 
 /// A sequent: where all formulas on the left hold, one on the right does (The KeY Book, 2.2.3).
-#[derive(Debug, Drop)]
+#[derive(Drop)]
 pub struct Sequent {
     /// The formulas on the left, the antecedent.
     pub left: Vec<Formula>,
@@ -10,7 +10,7 @@ pub struct Sequent {
 }
 
 /// A side of a sequent.
-#[derive(Clone, Copy, PartialEq, Eq, Debug)]
+#[derive(Clone, Copy, PartialEq, Eq)]
 pub enum Side {
     /// The antecedent.
     Left,
@@ -21,7 +21,7 @@ pub enum Side {
 /// A place in a sequent: a side, the number of the formula there from 1, and the numbers of the
 /// children from it down. Children count from 1 in the written order of the parts that are terms,
 /// formulas or locations.
-#[derive(Debug, Drop)]
+#[derive(Drop)]
 pub struct Place {
     /// The side.
     pub side: Side,

@@ -6,7 +6,7 @@ use jd_base::NoMemory;
 use jd_script::ScriptRefusal;
 
 /// Why a text gives no obligation a proof.
-#[derive(Debug, Drop)]
+#[derive(Drop)]
 pub enum ProofsRefusal {
     /// It is no file of proof scripts, or memory ran out.
     File(ScriptRefusal),

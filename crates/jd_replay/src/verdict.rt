@@ -1,7 +1,7 @@
 use jd_sequent::{Bad, Sequent};
 
 /// Why a step breaks a derivation.
-#[derive(Debug, Drop)]
+#[derive(Drop)]
 pub enum Cause {
     /// The rule refuses the step. `NoMemory` is never given here.
     Rule(Bad),
@@ -15,7 +15,7 @@ pub enum Cause {
 }
 
 /// What a script does to its goal.
-#[derive(Debug, Drop)]
+#[derive(Drop)]
 pub enum Verdict {
     /// The script derives the goal with no goal left.
     Closed {

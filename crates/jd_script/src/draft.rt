@@ -3,7 +3,7 @@ use jd_sequent::Step;
 use std::alloc::Global;
 
 /// What comes next in a proof: a tree or the end of the innermost step, a part of a step, or the end of the proof.
-#[derive(Clone, Copy, Debug)]
+#[derive(Clone, Copy)]
 pub(crate) enum Part {
     TreeNext,
     RuleNext,

@@ -25,7 +25,7 @@ use std::alloc::Global;
 use std::mem;
 
 /// What comes next in a file.
-#[derive(Clone, Copy, Debug)]
+#[derive(Clone, Copy)]
 pub(crate) enum Stage {
     FileNext,
     WordNext,
@@ -38,7 +38,7 @@ pub(crate) enum Stage {
 }
 
 /// What a token leads to.
-#[derive(Clone, Copy, Debug)]
+#[derive(Clone, Copy)]
 pub(crate) enum Turn {
     /// What comes next.
     Goes(Stage),

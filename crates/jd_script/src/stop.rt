@@ -1,14 +1,14 @@
 use crate::draft::Part;
 
 /// How many steps a proof may have, and how many levels of brackets the expressions of its instantiations.
-#[derive(Clone, Copy, Debug)]
+#[derive(Clone, Copy)]
 pub(crate) struct Limits {
     pub steps: usize,
     pub levels: usize,
 }
 
 /// Why no file within the limits goes on with a token.
-#[derive(Clone, Copy, Debug)]
+#[derive(Clone, Copy)]
 pub(crate) enum Stop {
     /// None does, whatever the limits.
     Wrong,
@@ -23,7 +23,7 @@ pub(crate) enum Stop {
 }
 
 /// What a token of a proof leads to.
-#[derive(Clone, Copy, Debug)]
+#[derive(Clone, Copy)]
 pub(crate) enum PartTurn {
     /// What comes next.
     Goes(Part),

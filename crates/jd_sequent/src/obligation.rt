@@ -9,7 +9,7 @@ use jd_syntax::{VarDecl, VarId};
 use jd_term::{Formula, Loc, Term};
 
 /// What is specified of a loop.
-#[derive(Debug, Drop)]
+#[derive(Drop)]
 pub struct LoopForm {
     /// The loop's number in its method, from 1.
     pub number: u32,
@@ -24,7 +24,7 @@ pub struct LoopForm {
 }
 
 /// What is to be proved of one method, for one exact class and one case of its contract.
-#[derive(Debug, Drop)]
+#[derive(Drop)]
 pub struct Obligation {
     /// The obligation's name, as `C::m#1`.
     pub name: Vec<u8>,

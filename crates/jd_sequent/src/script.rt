@@ -6,7 +6,7 @@ use jd_model::Place;
 use jd_syntax::Sx;
 
 /// One application of a rule.
-#[derive(Debug, Drop)]
+#[derive(Drop)]
 pub struct Step {
     /// The rule's name.
     pub rule: Vec<u8>,
@@ -19,7 +19,7 @@ pub struct Step {
 }
 
 /// A node of a script in preorder: a step with its number of children, or an open leaf.
-#[derive(Debug, Drop)]
+#[derive(Drop)]
 pub struct ScriptNode {
     /// The step, in a box so that an open leaf is small; `None` for an open leaf.
     pub step: Option<Box<Step>>,

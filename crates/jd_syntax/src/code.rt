@@ -2,7 +2,7 @@ use crate::variable::VarId;
 use jd_base::{ClassId, FieldId, MethodId};
 
 /// A class, or the array type `int[]`.
-#[derive(Clone, Copy, Debug)]
+#[derive(Clone, Copy)]
 pub enum Kind {
     /// A class.
     Class(ClassId),
@@ -11,7 +11,7 @@ pub enum Kind {
 }
 
 /// An operation on one value (JLS 15.15).
-#[derive(Clone, Copy, PartialEq, Eq, Debug)]
+#[derive(Clone, Copy, PartialEq, Eq)]
 pub enum UnaryOp {
     /// `-`, cut to 32 bits.
     Negate,
@@ -20,7 +20,7 @@ pub enum UnaryOp {
 }
 
 /// An operation on two values, both of which are always evaluated (JLS 15.17 to 15.21).
-#[derive(Clone, Copy, PartialEq, Eq, Debug)]
+#[derive(Clone, Copy, PartialEq, Eq)]
 pub enum BinaryOp {
     /// `+`, cut to 32 bits.
     Add,
@@ -48,7 +48,7 @@ pub enum BinaryOp {
 
 /// A list of statements.
 #[cycle(code)]
-#[derive(Debug, Drop)]
+#[derive(Drop)]
 pub struct Code {
     /// The statements in order.
     pub stmts: Vec<CodeStmt>,
@@ -56,7 +56,7 @@ pub struct Code {
 
 /// A statement of resolved code (JLS 14).
 #[cycle(code)]
-#[derive(Debug, Drop)]
+#[derive(Drop)]
 pub enum CodeStmt {
     /// `(set x X)`: the variable takes the value.
     Set(VarId, CodeExpr),
@@ -102,7 +102,7 @@ pub enum CodeStmt {
 
 /// An expression of resolved code (JLS 15).
 #[cycle(code)]
-#[derive(Debug, Drop)]
+#[derive(Drop)]
 pub enum CodeExpr {
     /// A literal of 32 bits.
     IntLiteral(i32),

@@ -1,7 +1,7 @@
 use crate::spec::SpecBlock;
 
 /// A name and where it stands.
-#[derive(Debug, Drop)]
+#[derive(Drop)]
 pub struct Identifier {
     /// The offset of its first byte.
     pub at: u32,
@@ -10,7 +10,7 @@ pub struct Identifier {
 }
 
 /// A type (JLS 4.1).
-#[derive(Debug, Drop)]
+#[derive(Drop)]
 pub enum JavaType {
     /// `int`
     Int,
@@ -23,7 +23,7 @@ pub enum JavaType {
 }
 
 /// A type and where it stands.
-#[derive(Debug, Drop)]
+#[derive(Drop)]
 pub struct WrittenType {
     /// The offset of its first token.
     pub at: u32,
@@ -32,7 +32,7 @@ pub struct WrittenType {
 }
 
 /// An operator between two operands (JLS 15.17 to 15.24).
-#[derive(Clone, Copy, PartialEq, Eq, Debug)]
+#[derive(Clone, Copy, PartialEq, Eq)]
 pub enum InfixOperator {
     /// `||`
     OrElse,
@@ -63,7 +63,7 @@ pub enum InfixOperator {
 }
 
 /// `++` or `--` (JLS 15.14.2, 15.14.3, 15.15.1, 15.15.2).
-#[derive(Clone, Copy, PartialEq, Eq, Debug)]
+#[derive(Clone, Copy, PartialEq, Eq)]
 pub enum CountOperator {
     /// `++`
     Increment,
@@ -72,7 +72,7 @@ pub enum CountOperator {
 }
 
 /// An operator before an operand (JLS 15.15).
-#[derive(Clone, Copy, PartialEq, Eq, Debug)]
+#[derive(Clone, Copy, PartialEq, Eq)]
 pub enum PrefixOperator {
     /// `+`
     Plus,
@@ -85,7 +85,7 @@ pub enum PrefixOperator {
 }
 
 /// An assignment (JLS 15.26).
-#[derive(Clone, Copy, PartialEq, Eq, Debug)]
+#[derive(Clone, Copy, PartialEq, Eq)]
 pub enum AssignmentOperator {
     /// `=`
     Set,
@@ -103,7 +103,7 @@ pub enum AssignmentOperator {
 
 /// An expression (JLS 15).
 #[cycle(java_expr)]
-#[derive(Debug, Drop)]
+#[derive(Drop)]
 pub struct Expr {
     /// The offset of its first token.
     pub at: u32,
@@ -113,7 +113,7 @@ pub struct Expr {
 
 /// The forms of expressions.
 #[cycle(java_expr)]
-#[derive(Debug, Drop)]
+#[derive(Drop)]
 pub enum ExprForm {
     /// A literal from 0 to 2147483648; the last stands directly behind a minus (JLS 3.10.1).
     Integer(u32),
@@ -156,7 +156,7 @@ pub enum ExprForm {
 }
 
 /// A declared local variable, with its first value where one is written (JLS 14.4).
-#[derive(Debug, Drop)]
+#[derive(Drop)]
 pub struct Declarator {
     /// Its name.
     pub name: Identifier,
@@ -165,7 +165,7 @@ pub struct Declarator {
 }
 
 /// What stands before the first `;` of a `for` (JLS 14.14.1).
-#[derive(Debug, Drop)]
+#[derive(Drop)]
 pub enum ForStart {
     /// `T x = e, ..`
     Declared(WrittenType, Vec<Declarator>),
@@ -175,7 +175,7 @@ pub enum ForStart {
 
 /// A statement (JLS 14).
 #[cycle(java_stmt)]
-#[derive(Debug, Drop)]
+#[derive(Drop)]
 pub struct Stmt {
     /// The offset of its first token; JML before it does not count.
     pub at: u32,
@@ -185,7 +185,7 @@ pub struct Stmt {
 
 /// The forms of statements.
 #[cycle(java_stmt)]
-#[derive(Debug, Drop)]
+#[derive(Drop)]
 pub enum StmtForm {
     /// `{ s .. }`
     Block(Vec<Stmt>),
@@ -223,7 +223,7 @@ pub enum StmtForm {
 
 /// A `catch` of a `try` (JLS 14.20).
 #[cycle(java_stmt)]
-#[derive(Debug, Drop)]
+#[derive(Drop)]
 pub struct Handler {
     /// The offset of its first token.
     pub at: u32,
@@ -236,7 +236,7 @@ pub struct Handler {
 }
 
 /// A field's declaration (JLS 8.3).
-#[derive(Debug, Drop)]
+#[derive(Drop)]
 pub struct FieldDecl {
     /// The offset of its first token; JML before it does not count.
     pub at: u32,
@@ -249,7 +249,7 @@ pub struct FieldDecl {
 }
 
 /// A constant, `static final int K = n;` (JLS 8.3.2).
-#[derive(Debug, Drop)]
+#[derive(Drop)]
 pub struct ConstantDecl {
     /// The offset of its first token; JML before it does not count.
     pub at: u32,
@@ -262,7 +262,7 @@ pub struct ConstantDecl {
 }
 
 /// A parameter of a method or constructor (JLS 8.4.1).
-#[derive(Debug, Drop)]
+#[derive(Drop)]
 pub struct Parameter {
     /// The offset of its first token; JML before it does not count.
     pub at: u32,
@@ -275,7 +275,7 @@ pub struct Parameter {
 }
 
 /// What a method gives (JLS 8.4.5).
-#[derive(Debug, Drop)]
+#[derive(Drop)]
 pub enum ResultType {
     /// `void`
     Void,
@@ -286,7 +286,7 @@ pub enum ResultType {
 }
 
 /// A method or a constructor (JLS 8.4, 8.8).
-#[derive(Debug, Drop)]
+#[derive(Drop)]
 pub struct MethodDecl {
     /// The offset of its first token; JML before it does not count.
     pub at: u32,
@@ -305,7 +305,7 @@ pub struct MethodDecl {
 }
 
 /// A member of a class.
-#[derive(Debug, Drop)]
+#[derive(Drop)]
 pub enum Member {
     /// Fields of one type.
     Field(FieldDecl),
@@ -316,7 +316,7 @@ pub enum Member {
 }
 
 /// A class (JLS 8.1).
-#[derive(Debug, Drop)]
+#[derive(Drop)]
 pub struct ClassDecl {
     /// The offset of its first token; JML before it does not count.
     pub at: u32,
@@ -331,7 +331,7 @@ pub struct ClassDecl {
 }
 
 /// A file (JLS 7.3).
-#[derive(Debug, Drop)]
+#[derive(Drop)]
 pub struct Unit {
     /// Its classes in order.
     pub classes: Vec<ClassDecl>,

@@ -2,7 +2,7 @@ use crate::java::{Identifier, InfixOperator, JavaType, WrittenType};
 use jd_base::MethodId;
 
 /// A place where JML stands.
-#[derive(Clone, Copy, PartialEq, Eq, Debug)]
+#[derive(Clone, Copy, PartialEq, Eq)]
 pub enum SpecPlace {
     /// Before a field.
     Field,
@@ -18,7 +18,7 @@ pub enum SpecPlace {
 }
 
 /// A type of JML: of Java, or `\bigint`, the integers (JML Reference Manual, 7.1).
-#[derive(Debug, Drop)]
+#[derive(Drop)]
 pub enum SpecType {
     /// `\bigint`
     BigInt,
@@ -27,7 +27,7 @@ pub enum SpecType {
 }
 
 /// An operator before an operand in JML.
-#[derive(Clone, Copy, PartialEq, Eq, Debug)]
+#[derive(Clone, Copy, PartialEq, Eq)]
 pub enum SpecPrefix {
     /// `+`
     Plus,
@@ -38,7 +38,7 @@ pub enum SpecPrefix {
 }
 
 /// `\forall` or `\exists` (JML Reference Manual, 12.4.24).
-#[derive(Clone, Copy, PartialEq, Eq, Debug)]
+#[derive(Clone, Copy, PartialEq, Eq)]
 pub enum Quantifier {
     /// `\forall`
     ForAll,
@@ -48,7 +48,7 @@ pub enum Quantifier {
 
 /// An expression of JML (JML Reference Manual, 12).
 #[cycle(spec_expr)]
-#[derive(Debug, Drop)]
+#[derive(Drop)]
 pub struct SpecExpr {
     /// The offset of its first token.
     pub at: u32,
@@ -58,7 +58,7 @@ pub struct SpecExpr {
 
 /// The forms of JML's expressions.
 #[cycle(spec_expr)]
-#[derive(Debug, Drop)]
+#[derive(Drop)]
 pub enum SpecForm {
     /// A literal from 0 to 2^127 - 1.
     Integer(i128),
@@ -111,7 +111,7 @@ pub enum SpecForm {
 }
 
 /// A set of locations (JML Reference Manual, 12.7), and where it stands.
-#[derive(Debug, Drop)]
+#[derive(Drop)]
 pub struct LocExpr {
     /// The offset of its first token.
     pub at: u32,
@@ -120,7 +120,7 @@ pub struct LocExpr {
 }
 
 /// The forms of sets of locations.
-#[derive(Debug, Drop)]
+#[derive(Drop)]
 pub enum LocForm {
     /// `\nothing`
     Nothing,
@@ -141,7 +141,7 @@ pub enum LocForm {
 }
 
 /// A clause or a word of JML, and where it stands.
-#[derive(Debug, Drop)]
+#[derive(Drop)]
 pub struct SpecClause {
     /// The offset of its first token.
     pub at: u32,
@@ -150,7 +150,7 @@ pub struct SpecClause {
 }
 
 /// The clauses and words of JML (JML Reference Manual, 6.2, 8, 9, 13.2).
-#[derive(Debug, Drop)]
+#[derive(Drop)]
 pub enum ClauseForm {
     /// `requires e;`
     Requires(SpecExpr),
@@ -195,7 +195,7 @@ pub enum ClauseForm {
 }
 
 /// The JML at one place of a file.
-#[derive(Debug, Drop)]
+#[derive(Drop)]
 pub struct SpecBlock {
     /// Which place it is.
     pub place: SpecPlace,
@@ -208,7 +208,7 @@ pub struct SpecBlock {
 }
 
 /// What the words of a method's declaration say of it and its parameters.
-#[derive(Debug, Drop)]
+#[derive(Drop)]
 pub struct Marks {
     /// `pure`: it assigns nothing.
     pub is_pure: bool,
@@ -221,7 +221,7 @@ pub struct Marks {
 }
 
 /// One case of a contract.
-#[derive(Debug, Drop)]
+#[derive(Drop)]
 pub struct SpecCase {
     /// The method at whose declaration the case is written.
     pub declared: MethodId,

@@ -1,5 +1,5 @@
 /// A bracketed expression: a token, or a list in round brackets.
-#[derive(Debug, Drop)]
+#[derive(Drop)]
 pub enum Sx {
     /// One token, as its bytes.
     Atom(Vec<u8>),

@@ -1,7 +1,7 @@
 use jd_base::{ClassId, Sort};
 
 /// A program variable: two of them are the same where name and sort agree.
-#[derive(Debug, Drop)]
+#[derive(Drop)]
 pub struct VarId {
     /// The printed name.
     pub name: Vec<u8>,
@@ -10,7 +10,7 @@ pub struct VarId {
 }
 
 /// The declaration of a parameter or local variable.
-#[derive(Debug, Drop)]
+#[derive(Drop)]
 pub struct VarDecl {
     /// The printed name.
     pub name: Vec<u8>,

@@ -5,7 +5,7 @@ use jd_syntax::{BinaryOp, UnaryOp};
 use jd_term::{ArithmeticOp, Modality};
 
 /// What begins a term.
-#[derive(Clone, Copy, Debug)]
+#[derive(Clone, Copy)]
 pub enum TermHead {
     /// `add`, `sub`, `mul`, `div` or `mod`
     Arithmetic(ArithmeticOp),
@@ -30,7 +30,7 @@ pub enum TermHead {
 }
 
 /// What begins a location set.
-#[derive(Clone, Copy, Debug)]
+#[derive(Clone, Copy)]
 pub enum LocHead {
     /// `loc`
     Single,
@@ -45,7 +45,7 @@ pub enum LocHead {
 }
 
 /// What begins a formula.
-#[derive(Clone, Copy, Debug)]
+#[derive(Clone, Copy)]
 pub enum FormulaHead {
     /// `not`
     Not,
@@ -86,7 +86,7 @@ pub enum FormulaHead {
 }
 
 /// What begins an expression of code.
-#[derive(Clone, Copy, Debug)]
+#[derive(Clone, Copy)]
 pub enum ExprHead {
     /// `neg` or `not`
     Unary(UnaryOp),
@@ -119,7 +119,7 @@ pub enum ExprHead {
 }
 
 /// What begins a statement of code.
-#[derive(Clone, Copy, Debug)]
+#[derive(Clone, Copy)]
 pub enum StmtHead {
     /// `set`
     Set,

@@ -29,27 +29,3 @@ pub(crate) fn declared_variable(
     }
     Ok(None)
 }
-
-#[cfg(test)]
-mod tests {
-    use super::*;
-    use jd_base::Sort;
-    use std::test::Fail;
-
-    #[test]
-    fn a_declared_variable_is_found(rt: HostRuntime) -> Result<(), Fail> {
-        let alloc = rt.alloc();
-        let mut vars = Vec::new(alloc);
-        vars.push(VarDecl {
-            name: b"n'1".to_vec(alloc)?,
-            sort: Sort::Int,
-            class: None,
-        })?;
-        let Some(found) = declared_variable(alloc, &vars, b"n'1")? else {
-            return Err("none".into());
-        };
-        assert_eq!(rt; found.name.as_slice(), b"n'1".as_slice());
-        assert!(rt; declared_variable(alloc, &vars, b"n")?.is_none());
-        Ok(())
-    }
-}

@@ -8,7 +8,7 @@ use jd_base::Sort;
 use jd_syntax::VarId;
 
 /// What a `return` has to give, by the innermost frame around it.
-#[derive(Clone, Copy, Debug)]
+#[derive(Clone, Copy)]
 pub enum Returns {
     /// Whatever it likes: there is no frame around it.
     Free,

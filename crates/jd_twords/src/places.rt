@@ -1,7 +1,7 @@
 //! The forms of terms, location sets, formulas and code, as tables.
 
 /// What stands at a place.
-#[derive(Clone, Copy, Debug)]
+#[derive(Clone, Copy)]
 pub enum Place<'a> {
     /// A term.
     Term,
@@ -38,7 +38,7 @@ pub enum Place<'a> {
 }
 
 /// The parts in brackets, and what may follow them, as often as one likes.
-#[derive(Clone, Copy, Debug)]
+#[derive(Clone, Copy)]
 pub struct Form<'a> {
     /// The parts.
     pub parts: &'a [Place<'a>],
