@@ -14,9 +14,20 @@ use jd_update::{apply_update, drop_dead, has_no_binder, pairs_have_no_sum, simpl
 use row_text::first_word;
 use std::alloc::Global;
 
+// The text of a formula that is made here alone.
+pub(crate) fn printed(
+    alloc: Global,
+    names: &Names<'_>,
+    made: Result<Formula, NoMemory>,
+) -> Result<Vec<u8>, NoMemory> {
+    match &made {
+        Ok(formula) => print_formula(alloc, formula, names),
+        Err(NoMemory) => Err(NoMemory),
+    }
+}
+
 fn copied(alloc: Global, names: &Names<'_>, f: &Formula) -> Result<Vec<u8>, NoMemory> {
-    let copied = copy(alloc, f)?;
-    print_formula(alloc, &copied, names)
+    printed(alloc, names, copy(alloc, f))
 }
 
 #[tactic(auto, using(jd_update::proofs::Binderless::fits))]
@@ -24,8 +35,7 @@ fn simplified(alloc: Global, names: &Names<'_>, f: &Formula) -> Result<Vec<u8>, 
     if !has_no_binder(f) {
         return said(alloc, "binder");
     }
-    let simplified = simplify(alloc, f)?;
-    print_formula(alloc, &simplified, names)
+    printed(alloc, names, simplify(alloc, f))
 }
 
 #[tactic(auto, using(jd_update::proofs::Binderless::fits))]
@@ -36,8 +46,7 @@ fn applied(alloc: Global, names: &Names<'_>, u: &Update, f: &Formula) -> Result<
     if !has_no_binder(f) {
         return said(alloc, "binder");
     }
-    let applied = apply_update(alloc, u, f)?;
-    print_formula(alloc, &applied, names)
+    printed(alloc, names, apply_update(alloc, u, f))
 }
 
 fn boxed_copy(alloc: Global, f: &Formula) -> Result<Box<Formula>, NoMemory> {
@@ -51,8 +60,11 @@ fn shortened(
     u: &Update,
     f: &Formula,
 ) -> Result<Vec<u8>, NoMemory> {
-    let (short, f) = both(drop_dead(alloc, u, f), boxed_copy(alloc, f))?;
-    print_formula(alloc, &Formula::Updated(short, f), names)
+    let made = match both(drop_dead(alloc, u, f), boxed_copy(alloc, f)) {
+        Ok((short, f)) => Ok(Formula::Updated(short, f)),
+        Err(error) => Err(error),
+    };
+    printed(alloc, names, made)
 }
 
 fn made(
@@ -73,9 +85,10 @@ fn made(
 }
 
 fn parsed(alloc: Global, names: &Names<'_>, operation: &str, x: &Sx) -> Result<Vec<u8>, NoMemory> {
-    match parse_formula(alloc, x, names) {
-        Ok(formula) => made(alloc, names, operation, &formula),
-        Err(refusal) => refused(alloc, refusal),
+    let parsed = parse_formula(alloc, x, names);
+    match &parsed {
+        Ok(formula) => made(alloc, names, operation, formula),
+        Err(refusal) => refused(alloc, *refusal),
     }
 }
 
@@ -144,6 +157,19 @@ fn are_same(alloc: Global, names: &Names<'_>, text: &str) -> Result<Vec<u8>, NoM
     }
 }
 
+fn made_of(
+    alloc: Global,
+    names: &Names<'_>,
+    operation: &str,
+    text: &str,
+) -> Result<Vec<u8>, NoMemory> {
+    let formula = formula_of(alloc, names, text)?;
+    match &formula {
+        Some(f) => made(alloc, names, operation, f),
+        None => said(alloc, "none"),
+    }
+}
+
 /// What a row `open OPERATION TEXT` asks for, of formulas as [`formula_in`] reads them.
 pub(crate) fn open(
     alloc: Global,
@@ -154,9 +180,6 @@ pub(crate) fn open(
     match operation {
         "equals" => are_same(alloc, names, text),
         "occurs" => occurs(alloc, names, text),
-        _ => match formula_of(alloc, names, text)? {
-            Some(f) => made(alloc, names, operation, &f),
-            None => said(alloc, "none"),
-        },
+        _ => made_of(alloc, names, operation, text),
     }
 }

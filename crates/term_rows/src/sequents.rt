@@ -1,6 +1,6 @@
 //! Rows of sequents, which are written `((FORMULA ..) (FORMULA ..))`.
 
-use crate::formulas::{formula_in, formula_of};
+use crate::formulas::{formula_in, formula_of, printed};
 use crate::texts::{expression, said, two_texts};
 use jd_base::{NoMemory, both};
 use jd_model::{Node, Place, Sequent, Side, at, replace_at};
@@ -67,9 +67,11 @@ fn place_of(alloc: Global, word: &str) -> Result<Place, NoMemory> {
 
 // A location set in the text of `(in null created L)`.
 fn printed_loc(alloc: Global, names: &Names<'_>, locations: &Loc) -> Result<Vec<u8>, NoMemory> {
-    let copied = locations.copy(alloc)?;
-    let within = Formula::InLocations(Term::NullTerm, Term::CreatedField, copied);
-    print_formula(alloc, &within, names)
+    let made = match locations.copy(alloc) {
+        Ok(copied) => Ok(Formula::InLocations(Term::NullTerm, Term::CreatedField, copied)),
+        Err(error) => Err(error),
+    };
+    printed(alloc, names, made)
 }
 
 fn found(
