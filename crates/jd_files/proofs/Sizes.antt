@@ -11,19 +11,19 @@ use Rattle.jd_jsizes.specs.Sizes.{unit_size, files_size, TokensAreFew, TreesAreS
 use Rattle.jd_files.specs.Files.{AreTrees, file_limit}
 use Rattle.jd_files.proofs.Trees.{as_many_trees}
 
-small_file : TokensAreFew → TreesAreSmall → (bytes : List ℕ) (t : JavaUnit) → IsSource bytes t → unit_size t ≤ length bytes
+small_file : TokensAreFew → TreesAreSmall → (bytes : List ℕ) (t : JavaUnit) → IsSource bytes t → unit_size t ≤ 2 * length bytes
 small_file few small bytes t s =
-    let less = small s.tokens s.read.file s.read.spelled in
+    let less = small s.tokens s.read.file s.read.spelled.derived in
     omega (arith, less, ap unit_size s.read.is, few bytes s.tokens s.spelled)
 
-small_files : TokensAreFew → TreesAreSmall → (bs : List (List ℕ)) (ts : List JavaUnit) → AreTrees bs ts → All (λ b. length b ≤ file_limit) bs → files_size ts ≤ length bs * 1048576
+small_files : TokensAreFew → TreesAreSmall → (bs : List (List ℕ)) (ts : List JavaUnit) → AreTrees bs ts → All (λ b. length b ≤ file_limit) bs → files_size ts ≤ length bs * 2097152
 small_files few small [] [] are within = omega arith
 small_files few small [] (t ∷ ts) are within = absurd are
 small_files few small (b ∷ bs) [] are within = absurd are
 small_files few small (b ∷ bs) (t ∷ ts) are within =
     omega (arith, small_file few small b t are.0, All-head (λ b. length b ≤ file_limit) b bs within, small_files few small bs ts are.1 (All-tail (λ b. length b ≤ file_limit) b bs within))
 
-few_places : (limit : ℕ) (ds : List DeclaredClass) → limit ≤ 67108864 → All (λ d. length d.tree.members ≤ limit) ds → All (λ d. HasFewMembers d.tree) ds
+few_places : (limit : ℕ) (ds : List DeclaredClass) → limit ≤ 134217728 → All (λ d. length d.tree.members ≤ limit) ds → All (λ d. HasFewMembers d.tree) ds
 few_places limit ds le all = All-weaker (λ d. length d.tree.members ≤ limit) (λ d. HasFewMembers d.tree) (λ d few. omega (arith, few, le)) ds all
 
 -- files have not too many classes and members for their numbers
@@ -35,7 +35,7 @@ pub record AreFewParts (units : List JavaUnit) : Type 0 where
 
 pub few_parts : TokensAreFew → TreesAreSmall → ClassesAreFew → PlacesAreFew → MembersAreFew → (bs : List (List ℕ)) (ts : List JavaUnit) → AreTrees bs ts → All (λ b. length b ≤ file_limit) bs → length bs ≤ 64 → AreFewParts ts
 few_parts few small classes places members bs ts are within count =
-    let total : files_size ts ≤ 67108864 = omega (arith, small_files few small bs ts are within, count) in
+    let total : files_size ts ≤ 134217728 = omega (arith, small_files few small bs ts are within, count) in
     record {
       files = omega (arith, as_many_trees bs ts are, count);
       classes = omega (arith, classes ts, total);

@@ -1,6 +1,8 @@
 -- What trees stand for, where a relation says what a node may stand for; and the same of a preorder.
-use Rattle.std.specs.Prelude.{◌≡◌, ℕ, zero, suc, ◌+◌, List, [], ◌∷◌, ◌++◌, Option, Some, None, length, take, drop}
+use Rattle.std.specs.Prelude.{◌≡◌, ℕ, zero, suc, ◌+◌, List, [], ◌∷◌, Option, Some, None, length, take, drop}
+use Rattle.jd_grammar.specs.declared.fold.NodeParts.{NodeParts}
 use Rattle.jd_grammar.specs.declared.fold.Parts.{Parts}
+use Rattle.jd_grammar.specs.declared.fold.Parts.TheVariants as parts
 use Rattle.jd_grammar.specs.declared.table.Symbol.TheVariants.{Name}
 use Rattle.jd_grammar.specs.Folds.{AritiesFit}
 use Rattle.jd_grammar.specs.Grammars.{Forest, Done, Leaf, Node, yield, preorder, IsForest, Production}
@@ -11,7 +13,31 @@ listed (Some v) = v ∷ []
 
 -- the values of a node's parts, from the left
 abbrev pub parts_list : {V : Type 0} → Parts V → List V
-parts_list ps = listed ps.first ++ (listed ps.second ++ (listed ps.third ++ listed ps.fourth))
+parts_list parts.None = []
+parts_list (parts.One a) = a ∷ []
+parts_list (parts.Two a b) = a ∷ b ∷ []
+parts_list (parts.Three a b c) = a ∷ b ∷ c ∷ []
+parts_list (parts.Four a b c d) = a ∷ b ∷ c ∷ d ∷ []
+
+-- the values up to the first that is not there
+abbrev pub packed_list : {V : Type 0} → Option V → Option V → Option V → Option V → List V
+packed_list None b c d = []
+packed_list (Some a) None c d = a ∷ []
+packed_list (Some a) (Some b) None d = a ∷ b ∷ []
+packed_list (Some a) (Some b) (Some c) None = a ∷ b ∷ c ∷ []
+packed_list (Some a) (Some b) (Some c) (Some d) = a ∷ b ∷ c ∷ d ∷ []
+
+-- the parts by their places, and what stands for nothing behind the last
+abbrev pub filled : {V : Type 0} → NodeParts V → List V → NodeParts V
+filled nothing [] = nothing
+filled nothing (a ∷ []) = record nothing { first = a }
+filled nothing (a ∷ b ∷ []) = record nothing { first = a; second = b }
+filled nothing (a ∷ b ∷ c ∷ []) = record nothing { first = a; second = b; third = c }
+filled nothing (a ∷ b ∷ c ∷ d ∷ more) = record nothing { first = a; second = b; third = c; fourth = d }
+
+-- the same at each place
+abbrev pub all_of : {V : Type 0} → V → NodeParts V
+all_of v = record { first = v; second = v; third = v; fourth = v }
 
 -- what a node of a production may stand for, with the tokens from its first on and what its parts stand for
 abbrev pub Stands : Type 0 → Type 0 → Type 1
@@ -51,3 +77,8 @@ pub record IsReadAs (t : Rooted) (count : ℕ → ℕ) (order : List ℕ) (n : �
   pub tree : IsForest t.productions t.forest (Name t.name ∷ []) []
   pub order_is : preorder t.forest ≡ order
   pub tokens : length (yield t.forest) ≡ n
+
+-- some tree is read so
+pub record IsRead (count : ℕ → ℕ) (order : List ℕ) (n : ℕ) : Type 0 where
+  pub tree : Rooted
+  pub read : IsReadAs tree count order n

@@ -1,16 +1,52 @@
 ghost use Rattle.std.specs.Prelude.{◌≡◌, ◌≤◌, ◌∷◌, ℕ, List, [], IfOk, OnOk, length, take, drop, reverse, cond};
-ghost use Rattle.jd_grammar.specs.Nodes.{Evaluates, IsReadAs, Rooted, StandFor, leaves, listed, parts_list};
+ghost use Rattle.jd_grammar.specs.Nodes.{Evaluates, IsRead, IsReadAs, Rooted, StandFor, leaves, listed, packed_list, parts_list};
+ghost use Rattle.jd_grammar.specs.Nodes as plain;
 
 use jd_base::NoMemory;
 use std::alloc::Global;
 
 /// The values of a node's parts, from the left: those of the names of its production's body.
 #[derive(Drop)]
-pub struct Parts<V> {
-    pub first: Option<V>,
-    pub second: Option<V>,
-    pub third: Option<V>,
-    pub fourth: Option<V>,
+pub enum Parts<V> {
+    None,
+    One(V),
+    Two(V, V),
+    Three(V, V, V),
+    Four(V, V, V, V),
+}
+
+/// A node's parts by their places, with something for nothing behind the last.
+#[derive(Clone, Copy, Drop)]
+pub struct NodeParts<V> {
+    pub first: V,
+    pub second: V,
+    pub third: V,
+    pub fourth: V,
+}
+
+/// The parts, and what stands for nothing at the places behind the last.
+pub fn filled<V: Drop>(nothing: NodeParts<V>, parts: Parts<V>) -> NodeParts<V>
+    ensures { result ≡ plain.filled nothing (parts_list parts) }
+{
+    let NodeParts {
+        first,
+        second,
+        third,
+        fourth,
+    } = nothing;
+    let (first, second, third, fourth) = match parts {
+        Parts::None => (first, second, third, fourth),
+        Parts::One(a) => (a, second, third, fourth),
+        Parts::Two(a, b) => (a, b, third, fourth),
+        Parts::Three(a, b, c) => (a, b, c, fourth),
+        Parts::Four(a, b, c, d) => (a, b, c, d),
+    };
+    NodeParts {
+        first,
+        second,
+        third,
+        fourth,
+    }
 }
 
 /// What the nodes of trees stand for.
@@ -45,6 +81,24 @@ fn popped<V: Drop>(stack: &mut Vec<V>, some: bool) -> Option<V>
     if some { stack.pop() } else { None }
 }
 
+// The values up to the first that is not there.
+fn packed<V: Drop>(
+    first: Option<V>,
+    second: Option<V>,
+    third: Option<V>,
+    fourth: Option<V>,
+) -> Parts<V>
+    ensures { parts_list result ≡ packed_list first second third fourth }
+{
+    match (first, second, third, fourth) {
+        (Some(a), Some(b), Some(c), Some(d)) => Parts::Four(a, b, c, d),
+        (Some(a), Some(b), Some(c), None) => Parts::Three(a, b, c),
+        (Some(a), Some(b), None, _) => Parts::Two(a, b),
+        (Some(a), None, _, _) => Parts::One(a),
+        (None, _, _, _) => Parts::None,
+    }
+}
+
 // The values on top, so many of them.
 fn take_parts<V: Drop>(stack: &mut Vec<V>, count: u8) -> Parts<V>
     requires { count ≤ 4 }
@@ -55,12 +109,7 @@ fn take_parts<V: Drop>(stack: &mut Vec<V>, count: u8) -> Parts<V>
     let second = popped(stack, count > 1);
     let third = popped(stack, count > 2);
     let fourth = popped(stack, count > 3);
-    Parts {
-        first,
-        second,
-        third,
-        fourth,
-    }
+    packed(first, second, third, fourth)
 }
 
 // Puts what a node stands for in the place of what its parts stand for.
@@ -116,9 +165,8 @@ pub fn value_of<T, V: Drop, N: Nodes<T, V>>(
     order: &[u16],
     tokens: &[T],
 ) -> Result<V, NoMemory>
-    ghost tree: { Rooted }
-    requires read { IsReadAs tree (N.count nodes.now) order.now (length tokens.now) }
-    ensures { IfOk result (λ v. StandFor (N.stands nodes.now) tree.forest tokens.now (v ∷ [])) }
+    requires read { IsRead (N.count nodes.now) order.now (length tokens.now) }
+    ensures { (tree : Rooted) → IsReadAs tree (N.count nodes.now) order.now (length tokens.now) → IfOk result (λ v. StandFor (N.stands nodes.now) tree.forest tokens.now (v ∷ [])) }
 {
     let mut stack = Vec::new(alloc);
     match evaluate(alloc, nodes, order, tokens, &mut stack) {

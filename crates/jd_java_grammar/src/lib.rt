@@ -10,10 +10,12 @@ ghost use Rattle.jd_java_grammar.specs.Productions.{java_productions};
 ghost use Rattle.jd_java_grammar.specs.declared.names.TheConstants.{COMPILATION_UNIT};
 
 pub mod kinds;
+mod laws;
 pub mod names;
 mod table;
 
 use jd_grammar::{Refusal, Table, parse};
+pub use laws::one_derivation;
 use std::alloc::Global;
 
 // The table.

@@ -1,5 +1,4 @@
 mod Answering
-mod InExpressions
-mod Reading
-mod Running
+mod Deriving
+mod Judging
 mod Tokens

@@ -1,3 +1,2 @@
 pub mod OneAnswer
 pub mod Parses
-pub mod Runs

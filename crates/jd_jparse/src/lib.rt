@@ -1,13 +1,9 @@
 //! The files that tokens of Java spell, as trees, and why tokens are no file's.
 #![tactic(auto)]
 
-mod expressions;
 mod laws;
 mod parse;
-mod places;
 mod refusal;
-mod run;
-mod turns;
 
 pub use laws::one_answer;
 pub use parse::parse_unit;

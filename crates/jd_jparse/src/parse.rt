@@ -1,25 +1,25 @@
-ghost use Rattle.std.specs.Prelude.{◌≡◌, ◌≤◌, ◌<◌, length, IfOk, IfErr, Some, None};
+ghost use Rattle.std.specs.Prelude.{◌≡◌, ◌≤◌, ◌<◌, length, map, min, IfOk, IfErr, IfSome, Some, None};
+ghost use Rattle.jd_grammar.specs.Grammars.{Spells as SpellsOrder};
+ghost use Rattle.jd_grammar.specs.Readings.{IsRefusal};
 ghost use Rattle.jd_syntax.specs.JavaTrees.{unit_view};
 ghost use Rattle.jd_lex.specs.View.{token_view, tokens_view};
-ghost use Rattle.jd_jgrammar.specs.UnitReader as reader;
-ghost use Rattle.jd_jtrees.specs.CappedUnits.{capped_units};
+ghost use Rattle.jd_java_attributes.specs.Judging.{attributes_view, names_of};
+ghost use Rattle.jd_java_grammar.specs.Productions.{java_productions};
+ghost use Rattle.jd_java_grammar.specs.declared.names.TheConstants.{COMPILATION_UNIT};
+ghost use Rattle.jd_java_tokens.specs.Lexemes.{lexeme_view};
 ghost use Rattle.jd_jparse.specs.Parses as parses;
-ghost use Rattle.jd_jparse.specs.Parses.{Reads, Refuses, seen};
-ghost use Rattle.jd_jparse.specs.Runs.{file_of};
+ghost use Rattle.jd_jparse.specs.Parses.{IsNoFile, Reads, Refuses, kinds, seen};
 
 use crate::refusal::ParseRefusal;
-use crate::run::{FileRead, read_file};
 use jd_base::{NoMemory, copy_bytes};
-use jd_jgrammar::{units_are_read, what_is_read_is_a_unit};
-use jd_jmembers::Classes;
-use jd_jtokens::{first_unsupported, terminals};
-use jd_jtrees::units_up_to_limit;
+use jd_grammar::Refusal;
+use jd_java_attributes::{judge, rows_fit};
+use jd_java_grammar::{one_derivation, parse_java};
+use jd_java_tokens::{Lexeme, first_unsupported, kinds_of, lexemes};
+use jd_java_trees::tree_of;
 use jd_lex::{Token, TokenKind};
 use jd_syntax::Unit;
 use std::alloc::Global;
-
-// How high statements and expressions may be.
-const GREATEST_HEIGHT: u16 = 200;
 
 // The bytes of a word or a sign.
 fn text_of(alloc: Global, token: &Token) -> Result<Vec<u8>, NoMemory>
@@ -50,16 +50,6 @@ fn unsupported(alloc: Global, tokens: &[Token], number: usize) -> ParseRefusal
     }
 }
 
-// What the grammar makes of the tokens.
-fn read_tokens(alloc: Global, tokens: &[Token]) -> Result<FileRead, NoMemory>
-    requires { length tokens.now ≤ 4294967295 }
-    ensures { IfOk result (λ r. file_of r ≡ reader.read_unit (capped_units 200) (seen (tokens_view tokens.now))) }
-{
-    let placed = terminals(alloc, tokens)?;
-    let read = read_file(alloc, GREATEST_HEIGHT, &placed)?;
-    Ok(read)
-}
-
 // The offset behind the last token.
 fn end_of(tokens: &[Token]) -> u32
     ensures { result ≡ parses.end_of (tokens_view tokens.now) }
@@ -70,14 +60,58 @@ fn end_of(tokens: &[Token]) -> u32
     }
 }
 
-// The place that was found, if it is not behind the tokens; else their end.
-fn place_within(place: Option<u32>, tokens: &[Token]) -> u32
-    ensures { result ≤ parses.end_of (tokens_view tokens.now) }
+// The place of the token of the grammar of that number, or the end.
+fn place_of_token(tokens: &[Token], lexemes: &[Lexeme<'_>], number: usize) -> u32
+    requires { map lexeme_view lexemes.now ≡ seen (tokens_view tokens.now) }
+    ensures { result ≡ parses.place_of_token (tokens_view tokens.now) number }
 {
     let end = end_of(tokens);
-    match place {
-        Some(at) if at < end => at,
-        _ => end,
+    match lexemes.get(number) {
+        Some(lexeme) => lexeme.at.min(end),
+        None => end,
+    }
+}
+
+// The derivation of the file that the tokens of the grammar are.
+fn derivation(alloc: Global, lexemes: &[Lexeme<'_>]) -> Result<Vec<u16>, Refusal>
+    ensures ok { IfOk result (λ order. SpellsOrder java_productions COMPILATION_UNIT (kinds (map lexeme_view lexemes.now)) order.items) }
+    ensures err { IfErr result (IsRefusal java_productions COMPILATION_UNIT (kinds (map lexeme_view lexemes.now))) }
+{
+    let Ok(kinds) = kinds_of(alloc, lexemes) else {
+        return Err(Refusal::NoMemory);
+    };
+    parse_java(alloc, &kinds)
+}
+
+// The tree of a file that has this derivation, if all in it is as it is asked to be and nothing is too high.
+fn judged(
+    alloc: Global,
+    tokens: &[Token],
+    lexemes: &[Lexeme<'_>],
+    order: &[u16],
+) -> Result<Unit, ParseRefusal>
+    requires supported { parses.first_unsupported (tokens_view tokens.now) ≡ None }
+    requires seen { map lexeme_view lexemes.now ≡ seen (tokens_view tokens.now) }
+    requires derived { SpellsOrder java_productions COMPILATION_UNIT (kinds (map lexeme_view lexemes.now)) order.now }
+    ensures read { IfOk result (λ u. Reads (tokens_view tokens.now) (unit_view u)) }
+    ensures refused { IfErr result (λ e. Refuses (tokens_view tokens.now) e) }
+{
+    rows_fit();
+    one_derivation();
+    let Ok(attributes) = judge(alloc, order, lexemes) else {
+        return Err(ParseRefusal::NoMemory);
+    };
+    if let Some(at) = attributes.fault() {
+        let at = at.min(end_of(tokens));
+        return Err(ParseRefusal::Syntax { at });
+    }
+    if let Some(at) = attributes.form.high {
+        let at = at.min(end_of(tokens));
+        return Err(ParseRefusal::TooDeep { at });
+    }
+    match tree_of(alloc, order, lexemes) {
+        Ok(unit) => Ok(unit),
+        Err(_) => Err(ParseRefusal::NoMemory),
     }
 }
 
@@ -88,26 +122,16 @@ fn parse_supported(alloc: Global, tokens: &[Token]) -> Result<Unit, ParseRefusal
     ensures read { IfOk result (λ u. Reads (tokens_view tokens.now) (unit_view u)) }
     ensures refused { IfErr result (λ e. Refuses (tokens_view tokens.now) e) }
 {
-    units_are_read();
-    what_is_read_is_a_unit();
-    units_up_to_limit();
-    let Ok(read) = read_tokens(alloc, tokens) else {
+    let Ok(lexemes) = lexemes(alloc, tokens) else {
         return Err(ParseRefusal::NoMemory);
     };
-    let (classes, high) = match read {
-        FileRead::Whole(classes, high) => (classes, high),
-        FileRead::Stops(at) => {
-            return Err(ParseRefusal::Syntax {
-                at: place_within(at, tokens),
-            });
+    match derivation(alloc, &lexemes) {
+        Ok(order) => judged(alloc, tokens, &lexemes, &order),
+        Err(Refusal::Syntax { at }) => {
+            let at = place_of_token(tokens, &lexemes, at);
+            Err(ParseRefusal::Syntax { at })
         }
-    };
-    let Classes { trees } = classes;
-    match trees {
-        Some(classes) => Ok(Unit { classes }),
-        None => Err(ParseRefusal::TooDeep {
-            at: place_within(high, tokens),
-        }),
+        Err(Refusal::NoMemory) => Err(ParseRefusal::NoMemory),
     }
 }
 

@@ -1,3 +1,4 @@
 mod Declaring
 mod Spelling
 mod Tokens
+mod Values

@@ -1,12 +1,12 @@
 -- The sizes of the trees of files.
-use Rattle.std.specs.Prelude.{ℕ, suc, ◌+◌, ◌≤◌, List, [], ◌∷◌, length}
+use Rattle.std.specs.Prelude.{ℕ, suc, ◌+◌, ◌*◌, ◌≤◌, List, [], ◌∷◌, length}
 use Rattle.std.specs.List.{All}
 use Rattle.jd_lex.specs.Parts as lexed
 use Rattle.jd_lex.specs.Lexing.{Spells}
 use Rattle.jd_syntax.specs.JavaTrees.{JavaMember, FieldMember, ConstantMember, MethodMember, JavaClass, JavaUnit}
-use Rattle.jd_jgrammar.specs.Units.{CompilationUnit, IsUnit}
-use Rattle.jd_jtokens.specs.Placed.{terminals_of}
-use Rattle.jd_jtrees.specs.JavaUnitsOf.{unit_tree}
+use Rattle.jd_grammar.specs.Grammars.{Forest}
+use Rattle.jd_java_trees.specs.Meaning.{unit_of}
+use Rattle.jd_jparse.specs.Parses.{Derives, seen}
 use Rattle.jd_jclasses.specs.Classes.{declared_classes}
 use Rattle.jd_jclasses.specs.Members.{declared_members}
 
@@ -42,7 +42,7 @@ abbrev pub TokensAreFew : Type 0
 TokensAreFew = (bytes : List ℕ) (tokens : List lexed.Token) → Spells bytes tokens → length tokens ≤ length bytes
 
 abbrev pub TreesAreSmall : Type 0
-TreesAreSmall = (tokens : List lexed.Token) (file : CompilationUnit) → IsUnit (terminals_of 0 tokens) file → unit_size (unit_tree file) ≤ length tokens
+TreesAreSmall = (tokens : List lexed.Token) (file : Forest) → Derives tokens file → unit_size (unit_of file (seen tokens)) ≤ 2 * length tokens
 
 abbrev pub ClassesAreFew : Type 0
 ClassesAreFew = (units : List JavaUnit) → length (declared_classes units) ≤ files_size units

@@ -1,0 +1,5 @@
+pub mod Forms
+pub mod Rules
+pub mod Headings
+pub mod Judging
+pub mod Laws

@@ -1,0 +1,228 @@
+//! What a node's rule makes of the attributes of its parts.
+
+ghost use Rattle.std.specs.Prelude.{◌≡◌, map};
+ghost use Rattle.jd_java_tokens.specs.Lexemes.{lexeme_view};
+ghost use Rattle.jd_java_attributes.specs.Rules as plain;
+
+use crate::form::{Asked, EMPTY, Form, Kind, first_of, in_order, inside, is_target, up};
+use crate::rows::Rule;
+use jd_grammar::NodeParts;
+use jd_java_tokens::{Lexeme, place_of};
+
+fn all_in_order(form: Form, parts: NodeParts<Form>) -> Form
+    ensures { result ≡ plain.all_in_order form parts }
+{
+    let form = in_order(in_order(form, parts.first), parts.second);
+    in_order(in_order(form, parts.third), parts.fourth)
+}
+
+fn rest(parts: NodeParts<Form>) -> NodeParts<Form>
+    ensures { result ≡ plain.rest parts }
+{
+    NodeParts {
+        first: parts.second,
+        second: parts.third,
+        third: parts.fourth,
+        fourth: EMPTY,
+    }
+}
+
+fn operands(count: u8, form: Form, parts: NodeParts<Form>) -> Form
+    ensures { result ≡ plain.operands count form parts }
+{
+    match count {
+        0 => form,
+        1 => in_order(form, parts.first),
+        _ => in_order(in_order(form, parts.first), parts.second),
+    }
+}
+
+fn behind_operands(count: u8, parts: NodeParts<Form>) -> NodeParts<Form>
+    ensures { result ≡ plain.behind_operands count parts }
+{
+    match count {
+        0 => parts,
+        1 => rest(parts),
+        _ => rest(rest(parts)),
+    }
+}
+
+fn only_tokens(count: u8) -> Form
+    ensures { result ≡ plain.only_tokens count }
+{
+    Form {
+        tokens: count as u32,
+        ..EMPTY
+    }
+}
+
+fn operand(kind: Kind, form: Form) -> Form
+    ensures { result ≡ plain.operand kind form }
+{
+    Form { kind, ..form }
+}
+
+fn above(kind: Kind, form: Form) -> Form
+    ensures { result ≡ plain.above kind form }
+{
+    Form {
+        height: up(form.height),
+        adds: 0,
+        kind,
+        asked: Asked::Nothing,
+        ..form
+    }
+}
+
+fn suffix(kind: Kind, asked: Asked, form: Form) -> Form
+    ensures { result ≡ plain.suffix kind asked form }
+{
+    Form {
+        height: up(form.height),
+        adds: 1,
+        kind,
+        asked,
+        ..form
+    }
+}
+
+fn closed(form: Form) -> Form
+    ensures { result ≡ plain.closed form }
+{
+    Form {
+        adds: 0,
+        asked: Asked::Nothing,
+        ..form
+    }
+}
+
+fn asked_at(tokens: &[Lexeme<'_>], number: u32, holds: bool, form: Form) -> Form
+    ensures { result ≡ plain.asked_at (map lexeme_view tokens.now) number holds form }
+{
+    let place = if holds {
+        None
+    } else {
+        Some(place_of(number, tokens))
+    };
+    Form {
+        fault: first_of(form.fault, place),
+        ..form
+    }
+}
+
+fn is_effect(kind: Kind) -> bool
+    ensures { result ≡ plain.is_effect kind }
+{
+    match kind {
+        Kind::Effect => true,
+        _ => false,
+    }
+}
+
+fn nested(form: Form) -> Form
+    ensures { result ≡ plain.nested form }
+{
+    Form {
+        nesting: up(form.nesting),
+        ..form
+    }
+}
+
+fn high_at(tokens: &[Lexeme<'_>], form: Form) -> Option<u32>
+    ensures { result ≡ plain.high_at (map lexeme_view tokens.now) form form.high }
+{
+    match form.high {
+        Some(at) => Some(at),
+        None => {
+            if form.height > 200 || form.nesting > 200 {
+                Some(place_of(0, tokens))
+            } else {
+                None
+            }
+        }
+    }
+}
+
+fn counted(start: Form, tokens: &[Lexeme<'_>], parts: NodeParts<Form>) -> Form
+    ensures { result ≡ plain.counted start (map lexeme_view tokens.now) parts }
+{
+    let form = in_order(start, parts.first);
+    asked_at(
+        tokens,
+        form.tokens,
+        is_target(parts.first.kind),
+        above(Kind::Effect, form),
+    )
+}
+
+fn cast_operand(start: Form, tokens: &[Lexeme<'_>], parts: NodeParts<Form>) -> Form
+    ensures { result ≡ plain.cast_operand start (map lexeme_view tokens.now) parts }
+{
+    Form {
+        asked: Asked::Class(place_of(0, tokens)),
+        ..above(Kind::Other, in_order(start, parts.first))
+    }
+}
+
+fn name_effect(start: Form, tokens: &[Lexeme<'_>], parts: NodeParts<Form>) -> Form
+    ensures { result ≡ plain.name_effect start (map lexeme_view tokens.now) parts }
+{
+    let form = all_in_order(start, parts);
+    asked_at(tokens, form.tokens, is_effect(form.kind), form)
+}
+
+fn made(rule: Rule, count: u8, tokens: &[Lexeme<'_>], parts: NodeParts<Form>) -> Form
+    ensures { result ≡ plain.made rule count (map lexeme_view tokens.now) parts }
+{
+    let start = only_tokens(count);
+    match rule {
+        Rule::Expression => closed(all_in_order(start, parts)),
+        Rule::Operand(kind) => closed(all_in_order(operand(kind, start), parts)),
+        Rule::Above(n, kind) => {
+            let form = above(kind, operands(n, start, parts));
+            closed(all_in_order(form, behind_operands(n, parts)))
+        }
+        Rule::Parenthesized => {
+            let form = above(inside(parts.first.kind), in_order(start, parts.first));
+            closed(all_in_order(form, rest(parts)))
+        }
+        Rule::Count => counted(start, tokens, parts),
+        Rule::CastOperand => cast_operand(start, tokens, parts),
+        Rule::Suffix(n, kind) => {
+            let form = suffix(kind, Asked::Nothing, operands(n, start, parts));
+            all_in_order(form, behind_operands(n, parts))
+        }
+        Rule::TargetSuffix(n) => {
+            let asked = Asked::Target(place_of(0, tokens));
+            let form = suffix(Kind::Effect, asked, operands(n, start, parts));
+            all_in_order(form, behind_operands(n, parts))
+        }
+        Rule::EffectFirst => {
+            let is_effect = is_effect(parts.first.kind);
+            asked_at(
+                tokens,
+                parts.first.tokens,
+                is_effect,
+                all_in_order(start, parts),
+            )
+        }
+        Rule::NameEffect => name_effect(start, tokens, parts),
+        Rule::Nested => nested(all_in_order(start, parts)),
+        Rule::Statements => {
+            let first = nested(parts.first);
+            all_in_order(start, NodeParts { first, ..parts })
+        }
+        _ => all_in_order(start, parts),
+    }
+}
+
+/// The form of a node of this rule, with so many tokens beside its parts.
+pub(crate) fn form_of(rule: Rule, count: u8, tokens: &[Lexeme<'_>], parts: NodeParts<Form>) -> Form
+    ensures { result ≡ plain.with_high (map lexeme_view tokens.now) (plain.made rule count (map lexeme_view tokens.now) parts) }
+{
+    let form = made(rule, count, tokens, parts);
+    Form {
+        high: high_at(tokens, form),
+        ..form
+    }
+}

@@ -1,0 +1,48 @@
+//! Lists of any items: several as one, one more item, and the last apart.
+
+ghost use Rattle.std.specs.Prelude.{◌≡◌, ◌++◌, ◌∷◌, [], IfOk, MatchOption, OnOk};
+
+use jd_base::{NoMemory, both};
+use jd_java_values::{appended, with};
+use std::alloc::Global;
+
+/// The items of three lists whose last part comes first.
+pub fn all_of<T: Drop>(first: Vec<T>, second: Vec<T>, third: Vec<T>) -> Result<Vec<T>, NoMemory>
+    ensures { IfOk result (λ v. v.items ≡ (third.items ++ second.items) ++ first.items) }
+{
+    appended(appended(third, second)?, first)
+}
+
+/// The list of one item.
+pub fn alone<T: Drop>(alloc: Global, item: T) -> Result<Vec<T>, NoMemory>
+    ensures { IfOk result (λ v. v.items ≡ item ∷ []) }
+{
+    with(Vec::new(alloc), item)
+}
+
+/// Puts an item before the others.
+pub fn put_first<T: Drop>(items: &mut Vec<T>, item: T) -> Result<(), NoMemory>
+    ensures { OnOk result (items.new.items ≡ item ∷ items.old.items) }
+{
+    match items.insert(0, item) {
+        Ok(()) => Ok(()),
+        Err(_) => Err(NoMemory),
+    }
+}
+
+/// The list without its last item, and that.
+pub fn last_apart<T: Drop>(items: Vec<T>) -> (Vec<T>, Option<T>)
+    ensures { MatchOption result.1 ((items.items ≡ []) × (result.0.items ≡ [])) (λ x. items.items ≡ result.0.items ++ x ∷ []) }
+{
+    let mut items = items;
+    let last = items.pop();
+    (items, last)
+}
+
+/// The list with one more item, if that has been made.
+pub fn ended<T: Drop>(items: Vec<T>, item: Result<T, NoMemory>) -> Result<Vec<T>, NoMemory>
+    ensures { IfOk result (λ v. (x : T) × (item ≡ Ok x) × (v.items ≡ items.items ++ x ∷ [])) }
+{
+    let (items, item) = both(Ok(items), item)?;
+    with(items, item)
+}

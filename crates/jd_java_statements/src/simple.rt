@@ -1,0 +1,155 @@
+//! Statements without statements in them, and lists of statements.
+
+ghost use Rattle.std.specs.Prelude.{◌≡◌, List, [], ◌∷◌, map};
+ghost use Rattle.jd_java_tokens.specs.Lexemes.{lexeme_view};
+ghost use Rattle.jd_syntax.specs.JavaTrees.{JavaStmt, java_stmt_view, java_view};
+ghost use Rattle.jd_syntax.specs.JavaTrees as java;
+ghost use Rattle.jd_java_expressions.specs.Applying.{at_of};
+ghost use Rattle.jd_java_values.specs.Values.{Statements};
+ghost use Rattle.jd_java_values.specs.Parts as plain;
+ghost use Rattle.jd_java_values.specs.Views.{Gives, backwards, parts_view, value_view};
+ghost use Rattle.jd_java_statements.specs.declared.action.Action.{Action};
+ghost use Rattle.jd_java_statements.specs.Meaning.{meaning};
+
+use crate::ordered::{ordered_expressions, ordered_statements};
+use crate::parts::{first, none, two};
+use jd_base::NoMemory;
+use jd_grammar::NodeParts;
+use jd_java_tokens::{Lexeme, place_of};
+use jd_java_values::{Value, expression, some_expression, some_name, statement, statements, with};
+use jd_syntax::{Expr, Stmt, StmtForm};
+use std::alloc::Global;
+
+/// `{ s .. }`
+pub fn block(
+    alloc: Global,
+    tokens: &[Lexeme<'_>],
+    parts: NodeParts<Value>,
+) -> Result<Value, NoMemory>
+    ensures { Gives value_view result (meaning Action.Block (map lexeme_view tokens.now) (parts_view parts)) }
+{
+    let at = place_of(0, tokens);
+    let form = StmtForm::Block(ordered_statements(alloc, first(parts)));
+    Ok(Value::Statement(Stmt { at, form }))
+}
+
+/// `;`
+pub fn empty(tokens: &[Lexeme<'_>], parts: NodeParts<Value>) -> Result<Value, NoMemory>
+    ensures { Gives value_view result (meaning Action.Empty (map lexeme_view tokens.now) (parts_view parts)) }
+{
+    none(parts);
+    let at = place_of(0, tokens);
+    Ok(Value::Statement(Stmt {
+        at,
+        form: StmtForm::Empty,
+    }))
+}
+
+fn place(expression: &Expr) -> u32
+    ensures { result ≡ at_of (java_view expression.now) }
+{
+    expression.at
+}
+
+fn evaluated(expression: Expr) -> Stmt
+    ensures { java_stmt_view result ≡ java.Evaluate (at_of (java_view expression)) (java_view expression) }
+{
+    let at = place(&expression);
+    let form = StmtForm::Evaluate(expression);
+    Stmt { at, form }
+}
+
+/// `e;`
+pub fn evaluate(parts: NodeParts<Value>) -> Result<Value, NoMemory>
+    ensures { Gives value_view result (meaning Action.Evaluate [] (parts_view parts)) }
+{
+    Ok(Value::Statement(evaluated(expression(first(parts)))))
+}
+
+/// `break;` or `break l;`
+pub fn break_off(tokens: &[Lexeme<'_>], parts: NodeParts<Value>) -> Result<Value, NoMemory>
+    ensures { Gives value_view result (meaning Action.Break (map lexeme_view tokens.now) (parts_view parts)) }
+{
+    let at = place_of(0, tokens);
+    let form = StmtForm::Break(some_name(first(parts)));
+    Ok(Value::Statement(Stmt { at, form }))
+}
+
+/// `continue;` or `continue l;`
+pub fn go_on(tokens: &[Lexeme<'_>], parts: NodeParts<Value>) -> Result<Value, NoMemory>
+    ensures { Gives value_view result (meaning Action.Continue (map lexeme_view tokens.now) (parts_view parts)) }
+{
+    let at = place_of(0, tokens);
+    let form = StmtForm::Continue(some_name(first(parts)));
+    Ok(Value::Statement(Stmt { at, form }))
+}
+
+/// `return;` or `return e;`
+pub fn give_back(tokens: &[Lexeme<'_>], parts: NodeParts<Value>) -> Result<Value, NoMemory>
+    ensures { Gives value_view result (meaning Action.Return (map lexeme_view tokens.now) (parts_view parts)) }
+{
+    let at = place_of(0, tokens);
+    let form = StmtForm::Return(some_expression(first(parts)));
+    Ok(Value::Statement(Stmt { at, form }))
+}
+
+/// `throw e;`
+pub fn throw(tokens: &[Lexeme<'_>], parts: NodeParts<Value>) -> Result<Value, NoMemory>
+    ensures { Gives value_view result (meaning Action.Throw (map lexeme_view tokens.now) (parts_view parts)) }
+{
+    let at = place_of(0, tokens);
+    let form = StmtForm::Throw(expression(first(parts)));
+    Ok(Value::Statement(Stmt { at, form }))
+}
+
+fn listed(statements: Result<Vec<Stmt>, NoMemory>) -> Result<Value, NoMemory>
+    ensures { (ss : List JavaStmt) → Gives (backwards java_stmt_view) statements ss → Gives value_view result (Statements ss) }
+{
+    Ok(Value::Statements(statements?))
+}
+
+#[tactic(auto, using(crate::proofs::Lists::one_more))]
+fn preceded(alloc: Global, statement: Stmt, behind: Value) -> Result<Vec<Stmt>, NoMemory>
+    ensures { Gives (backwards java_stmt_view) result (java_stmt_view statement ∷ plain.statements_of (value_view behind)) }
+{
+    with(statements(alloc, behind), statement)
+}
+
+/// No statements.
+pub fn no_statements(alloc: Global, parts: NodeParts<Value>) -> Result<Value, NoMemory>
+    ensures { Gives value_view result (meaning Action.NoStatements [] (parts_view parts)) }
+{
+    none(parts);
+    Ok(Value::Statements(Vec::new(alloc)))
+}
+
+/// A statement, and those behind it.
+pub fn several_statements(alloc: Global, parts: NodeParts<Value>) -> Result<Value, NoMemory>
+    ensures { Gives value_view result (meaning Action.Statements [] (parts_view parts)) }
+{
+    let (head, behind) = two(parts);
+    listed(preceded(alloc, statement(head), behind))
+}
+
+fn parent_call(alloc: Global, at: u32, arguments: Value) -> Stmt
+    ensures { java_stmt_view result ≡ java.Super at (plain.expressions_of (value_view arguments)) }
+{
+    let form = StmtForm::Super(ordered_expressions(alloc, arguments));
+    Stmt { at, form }
+}
+
+/// `super(e, ..);`, and the statements behind it.
+pub fn after_super(
+    alloc: Global,
+    tokens: &[Lexeme<'_>],
+    parts: NodeParts<Value>,
+) -> Result<Value, NoMemory>
+    ensures { Gives value_view result (meaning Action.Super (map lexeme_view tokens.now) (parts_view parts)) }
+{
+    let (arguments, behind) = two(parts);
+    listed(preceded(
+        alloc,
+        parent_call(alloc, place_of(0, tokens), arguments),
+        behind,
+    ))
+}

@@ -1,4 +1,0 @@
-pub mod Ending
-mod Handling
-mod Turning
-mod Wanting

@@ -1,3 +1,0 @@
-mod Answering
-mod Naming
-mod Reducing

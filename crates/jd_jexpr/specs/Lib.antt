@@ -1,4 +1,0 @@
-pub mod Advances
-pub mod Brackets
-pub mod Reduced
-pub mod Views

@@ -1,3 +1,0 @@
-pub mod Modifying
-pub mod Terminals
-pub mod Views

@@ -1,4 +1,0 @@
-pub mod Catching
-pub mod Settled
-pub mod Terminals
-pub mod Views

@@ -1,2 +1,0 @@
-pub mod ByLength
-pub mod Runs

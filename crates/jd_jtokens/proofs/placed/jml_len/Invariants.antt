@@ -1,8 +1,0 @@
-use Rattle.std.proofs.Common.{◌≡◌, ◌+◌, drop}
-use Rattle.jd_lex.specs.View.{tokens_view}
-use Rattle.jd_jtokens.specs.Placed.{jml_length}
-use Rattle.jd_jtokens.proofs.placed.jml_len.Given as goal
-
--- all so far are JML
-abbrev pub invariant-loop-number : goal.invariant-loop-number
-invariant-loop-number l = jml_length (tokens_view l.tokens) ≡ l.number + jml_length (tokens_view (drop l.number l.tokens))

@@ -1,5 +1,0 @@
-use Rattle.jd_jtokens.specs.Words.{reserved_words}
-use Rattle.jd_jtokens.proofs.words.find_reserved_word.Given as goal
-
-abbrev pub ghost-find_by_length : goal.ghost-find_by_length
-ghost-find_by_length a = reserved_words

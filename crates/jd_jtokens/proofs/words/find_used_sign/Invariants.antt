@@ -1,5 +1,0 @@
-use Rattle.jd_jtokens.specs.Words.{used_signs}
-use Rattle.jd_jtokens.proofs.words.find_used_sign.Given as goal
-
-abbrev pub ghost-find_by_length : goal.ghost-find_by_length
-ghost-find_by_length a = used_signs

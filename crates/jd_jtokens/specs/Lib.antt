@@ -1,4 +1,0 @@
-pub mod Placed
-pub mod Terminals
-pub mod Unsupported
-pub mod Words

@@ -1,4 +1,0 @@
-pub mod ExpressionsMade
-pub mod BodiesMade
-pub mod UnitsMade
-pub mod LimitLaws

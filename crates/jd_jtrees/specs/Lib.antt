@@ -1,9 +1,0 @@
-pub mod Heights
-pub mod JavaTreesOf
-pub mod CappedTrees
-pub mod BodyHeights
-pub mod JavaBodiesOf
-pub mod CappedBodies
-pub mod JavaUnitsOf
-pub mod CappedUnits
-pub mod LimitLaws
