@@ -11,4 +11,4 @@ pub use heads::{begins_with_run, number_of, place_of, run_of, text_of};
 pub use lexeme::{Content, Lexeme};
 pub use runs::{kinds_of, lexemes};
 pub use unsupported::{first_unsupported, is_unsupported};
-pub use words::kind_of;
+pub use words::{Row, find_by_length, kind_of};

@@ -9,7 +9,7 @@ use jd_java_grammar::kinds;
 use jd_lex::TokenKind;
 
 /// A spelling and its kind.
-type Row = (&'static [u8], u8);
+pub type Row = (&'static [u8], u8);
 
 /// The literals that are words, and the keywords (JLS 3.9, 3.10.3, 3.10.8), by their lengths.
 const RESERVED_WORDS: [&[Row]; 13] = [
@@ -144,8 +144,8 @@ fn find_spelled(rows: &[Row], text: &[u8]) -> Option<u8>
     None
 }
 
-/// The same, where the rows of each length stand apart.
-fn find_by_length(tables: &[&[Row]], text: &[u8]) -> Option<u8>
+/// The kind of the first row of that spelling, where the rows of each length stand apart, from 0 on.
+pub fn find_by_length(tables: &[&[Row]], text: &[u8]) -> Option<u8>
     ghost rows: { plain.Table }
     requires { IsByLength rows (tables_view tables.now) }
     ensures { result ≡ spelled rows text.now }

@@ -1,0 +1,4 @@
+pub mod Forms
+pub mod Rules
+pub mod Judging
+pub mod Laws

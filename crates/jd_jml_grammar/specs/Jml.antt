@@ -1,0 +1,13 @@
+-- The table of JML as plain data.
+use Rattle.std.specs.Prelude.{ℕ, Bool, map, nat_eq}
+use Rattle.std.specs.List.{list_any}
+use Rattle.jd_grammar.specs.Tables.{PlainTable, production}
+use Rattle.jd_jml_grammar.specs.declared.names.TheConstants.{STARTS}
+use Rattle.jd_jml_grammar.specs.declared.table.TheConstants.{RULES, SYMBOLS, ROWS, WIDTH, WEIGHTS, SOLID}
+
+unfoldable pub jml : PlainTable
+jml = record { productions = map (production SYMBOLS) RULES; rows = ROWS; width = WIDTH; starts = STARTS; weights = WEIGHTS; solid = SOLID }
+
+-- a name that the JML of a whole place may be of
+abbrev pub is_place : ℕ → Bool
+is_place a = list_any (nat_eq a) STARTS

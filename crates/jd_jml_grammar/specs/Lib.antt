@@ -1,0 +1,3 @@
+pub mod Productions
+pub mod Jml
+pub mod Sets

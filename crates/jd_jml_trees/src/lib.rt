@@ -1,0 +1,8 @@
+//! The clauses that derivations of JML stand for.
+#![tactic(auto)]
+
+mod actions;
+mod nodes;
+
+pub use actions::Action;
+pub use nodes::{TreeNodes, clauses_of};

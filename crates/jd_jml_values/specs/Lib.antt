@@ -1,0 +1,4 @@
+pub mod Values
+pub mod Heads
+pub mod Parts
+pub mod Views

@@ -1,0 +1,4 @@
+mod Tokens
+mod Deriving
+mod Judging
+mod Answering

@@ -1,0 +1,79 @@
+//! A line, and what it asks.
+
+use jd_jmlparse::parse_spec;
+use jd_jparse::ParseRefusal;
+use jd_lex::{Token, tokens};
+use jd_syntax::SpecPlace;
+use row_text::{Answer, first_word, unescaped};
+use std::alloc::{AllocError, Global};
+
+/// How long a text may be.
+const GREATEST_LENGTH: usize = 1048576;
+
+/// How many bytes open the comment that a text stands in.
+const OPENING: i128 = 3;
+
+fn place_of(word: &str) -> Option<SpecPlace> {
+    match word {
+        "field" => Some(SpecPlace::Field),
+        "method" => Some(SpecPlace::Method),
+        "modifier" => Some(SpecPlace::Modifier),
+        "loop" => Some(SpecPlace::Loop),
+        "class_end" => Some(SpecPlace::ClassEnd),
+        _ => None,
+    }
+}
+
+// Places are counted from the beginning of the text.
+fn put_at(answer: &mut Answer, refusal: &str, at: u32) {
+    answer.put(refusal);
+    answer.put_number(i128::from(at) - OPENING);
+}
+
+fn put_refusal(answer: &mut Answer, refusal: &ParseRefusal) {
+    match refusal {
+        ParseRefusal::Syntax { at } => put_at(answer, "Syntax ", *at),
+        ParseRefusal::Unsupported { at, .. } => put_at(answer, "Unsupported ", *at),
+        ParseRefusal::TooDeep { at } => put_at(answer, "TooDeep ", *at),
+        ParseRefusal::NoMemory => answer.lack_memory(),
+    }
+}
+
+fn tell_tokens(answer: &mut Answer, alloc: Global, place: SpecPlace, tokens: &[Token]) {
+    match &parse_spec(alloc, place, tokens) {
+        Ok(clauses) => {
+            answer.put("ok ");
+            answer.put_number(clauses.len() as i128);
+        }
+        Err(refusal) => put_refusal(answer, refusal),
+    }
+}
+
+fn tell_text(answer: &mut Answer, alloc: Global, place: SpecPlace, text: &[u8]) {
+    if text.len() > GREATEST_LENGTH {
+        return answer.put("too long");
+    }
+    match &tokens(alloc, text) {
+        Ok(found) => tell_tokens(answer, alloc, place, found),
+        Err(_) => answer.put("no tokens"),
+    }
+}
+
+// The bytes of a text in a comment, where its escapes are ones.
+fn bytes_of(alloc: Global, text: &str) -> Result<Option<Vec<u8>>, AllocError> {
+    let text = format!(in alloc; "/*@{text}*/")?;
+    unescaped(alloc, text.as_str())
+}
+
+/// Answers a line, which is the name of a place and a text: how many clauses and words the text has there, or why it has none.
+pub(crate) fn tell(answer: &mut Answer, alloc: Global, line: &str) {
+    let (word, text) = first_word(line);
+    let Some(place) = place_of(word) else {
+        return answer.put("no place");
+    };
+    match &bytes_of(alloc, text) {
+        Ok(Some(bytes)) => tell_text(answer, alloc, place, bytes),
+        Ok(None) => answer.put("no text"),
+        Err(_) => answer.lack_memory(),
+    }
+}
