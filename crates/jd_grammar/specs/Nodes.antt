@@ -1,8 +1,6 @@
 -- What trees stand for, where a relation says what a node may stand for; and the same of a preorder.
 use Rattle.std.specs.Prelude.{◌≡◌, ℕ, zero, suc, ◌+◌, List, [], ◌∷◌, Option, Some, None, length, take, drop}
 use Rattle.jd_grammar.specs.declared.fold.NodeParts.{NodeParts}
-use Rattle.jd_grammar.specs.declared.fold.Parts.{Parts}
-use Rattle.jd_grammar.specs.declared.fold.Parts.TheVariants as parts
 use Rattle.jd_grammar.specs.declared.table.Symbol.TheVariants.{Name}
 use Rattle.jd_grammar.specs.Folds.{AritiesFit}
 use Rattle.jd_grammar.specs.Grammars.{Forest, Done, Leaf, Node, yield, preorder, IsForest, Production}
@@ -10,14 +8,6 @@ use Rattle.jd_grammar.specs.Grammars.{Forest, Done, Leaf, Node, yield, preorder,
 abbrev pub listed : {V : Type 0} → Option V → List V
 listed None = []
 listed (Some v) = v ∷ []
-
--- the values of a node's parts, from the left
-abbrev pub parts_list : {V : Type 0} → Parts V → List V
-parts_list parts.None = []
-parts_list (parts.One a) = a ∷ []
-parts_list (parts.Two a b) = a ∷ b ∷ []
-parts_list (parts.Three a b c) = a ∷ b ∷ c ∷ []
-parts_list (parts.Four a b c d) = a ∷ b ∷ c ∷ d ∷ []
 
 -- the values up to the first that is not there
 abbrev pub packed_list : {V : Type 0} → Option V → Option V → Option V → Option V → List V

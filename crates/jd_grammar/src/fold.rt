@@ -1,19 +1,9 @@
 ghost use Rattle.std.specs.Prelude.{◌≡◌, ◌≤◌, ◌∷◌, ℕ, List, [], IfOk, OnOk, length, take, drop, reverse, cond};
-ghost use Rattle.jd_grammar.specs.Nodes.{Evaluates, IsRead, IsReadAs, Rooted, StandFor, leaves, listed, packed_list, parts_list};
+ghost use Rattle.jd_grammar.specs.Nodes.{Evaluates, IsRead, IsReadAs, Rooted, StandFor, leaves, listed, packed_list};
 ghost use Rattle.jd_grammar.specs.Nodes as plain;
 
 use jd_base::NoMemory;
 use std::alloc::Global;
-
-/// The values of a node's parts, from the left: those of the names of its production's body.
-#[derive(Drop)]
-pub enum Parts<V> {
-    None,
-    One(V),
-    Two(V, V),
-    Three(V, V, V),
-    Four(V, V, V, V),
-}
 
 /// A node's parts by their places, with something for nothing behind the last.
 #[derive(Clone, Copy, Drop)]
@@ -24,31 +14,6 @@ pub struct NodeParts<V> {
     pub fourth: V,
 }
 
-/// The parts, and what stands for nothing at the places behind the last.
-pub fn filled<V: Drop>(nothing: NodeParts<V>, parts: Parts<V>) -> NodeParts<V>
-    ensures { result ≡ plain.filled nothing (parts_list parts) }
-{
-    let NodeParts {
-        first,
-        second,
-        third,
-        fourth,
-    } = nothing;
-    let (first, second, third, fourth) = match parts {
-        Parts::None => (first, second, third, fourth),
-        Parts::One(a) => (a, second, third, fourth),
-        Parts::Two(a, b) => (a, b, third, fourth),
-        Parts::Three(a, b, c) => (a, b, c, fourth),
-        Parts::Four(a, b, c, d) => (a, b, c, d),
-    };
-    NodeParts {
-        first,
-        second,
-        third,
-        fourth,
-    }
-}
-
 /// What the nodes of trees stand for.
 pub trait Nodes<T, V: Drop> {
     /// How many names the body of a production has.
@@ -57,20 +22,16 @@ pub trait Nodes<T, V: Drop> {
     /// What a node of a production may stand for, with the tokens from its first on and what its parts stand for.
     ghost stands: { Self → ℕ → List T → List V → V → Type 0 };
 
-    /// How many names the body of a production has.
-    fn names_of(&self, production: u16) -> u8
-        ensures is { result ≡ count self.now production }
-        ensures few { result ≤ 4 };
-
-    /// What a node stands for.
-    fn make(
+    /// Puts what a node stands for in the place of what its parts stand for: these lie on top of the stack, the first one above
+    /// the others.
+    fn reduce(
         &self,
         alloc: Global,
         production: u16,
         tokens: &[T],
-        parts: Parts<V>,
-    ) -> Result<V, NoMemory>
-        ensures { IfOk result (stands self.now production tokens.now (parts_list parts)) };
+        stack: &mut Vec<V>,
+    ) -> Result<(), NoMemory>
+        ensures { OnOk result ((v : V) × stands self.now production tokens.now (take (count self.now production) (reverse stack.old.items)) v × (reverse stack.new.items ≡ v ∷ drop (count self.now production) (reverse stack.old.items))) };
 }
 
 // The value on top, if one is asked for.
@@ -81,49 +42,49 @@ fn popped<V: Drop>(stack: &mut Vec<V>, some: bool) -> Option<V>
     if some { stack.pop() } else { None }
 }
 
-// The values up to the first that is not there.
-fn packed<V: Drop>(
+// The values up to the first that is not there, and what stands for nothing at the places behind them.
+fn placed<V: Drop>(
     first: Option<V>,
     second: Option<V>,
     third: Option<V>,
     fourth: Option<V>,
-) -> Parts<V>
-    ensures { parts_list result ≡ packed_list first second third fourth }
+    nothing: NodeParts<V>,
+) -> NodeParts<V>
+    ensures { result ≡ plain.filled nothing (packed_list first second third fourth) }
 {
-    match (first, second, third, fourth) {
-        (Some(a), Some(b), Some(c), Some(d)) => Parts::Four(a, b, c, d),
-        (Some(a), Some(b), Some(c), None) => Parts::Three(a, b, c),
-        (Some(a), Some(b), None, _) => Parts::Two(a, b),
-        (Some(a), None, _, _) => Parts::One(a),
-        (None, _, _, _) => Parts::None,
+    let (a, b, c, d) = (nothing.first, nothing.second, nothing.third, nothing.fourth);
+    let (first, second, third, fourth) = match (first, second, third, fourth) {
+        (Some(first), Some(second), Some(third), Some(fourth)) => (first, second, third, fourth),
+        (Some(first), Some(second), Some(third), None) => (first, second, third, d),
+        (Some(first), Some(second), None, _) => (first, second, c, d),
+        (Some(first), None, _, _) => (first, b, c, d),
+        (None, _, _, _) => (a, b, c, d),
+    };
+    NodeParts {
+        first,
+        second,
+        third,
+        fourth,
     }
 }
 
-// The values on top, so many of them.
-fn take_parts<V: Drop>(stack: &mut Vec<V>, count: u8) -> Parts<V>
+/// Takes the values on top of a stack, so many of them, as parts; behind the last stands what stands for nothing.
+pub fn take_parts<V: Drop>(stack: &mut Vec<V>, count: u8, nothing: NodeParts<V>) -> NodeParts<V>
     requires { count ≤ 4 }
-    ensures parts { parts_list result ≡ take count (reverse stack.old.items) }
+    ensures parts { result ≡ plain.filled nothing (take count (reverse stack.old.items)) }
     ensures rest { reverse stack.new.items ≡ drop count (reverse stack.old.items) }
 {
     let first = popped(stack, count > 0);
     let second = popped(stack, count > 1);
     let third = popped(stack, count > 2);
     let fourth = popped(stack, count > 3);
-    packed(first, second, third, fourth)
+    placed(first, second, third, fourth, nothing)
 }
 
-// Puts what a node stands for in the place of what its parts stand for.
-fn reduce<T, V: Drop, N: Nodes<T, V>>(
-    alloc: Global,
-    nodes: &N,
-    production: u16,
-    tokens: &[T],
-    stack: &mut Vec<V>,
-) -> Result<(), NoMemory>
-    ensures { OnOk result ((v : V) × N.stands nodes.now production tokens.now (take (N.count nodes.now production) (reverse stack.old.items)) v × (reverse stack.new.items ≡ v ∷ drop (N.count nodes.now production) (reverse stack.old.items))) }
+/// Puts a value on top of a stack.
+pub fn put<V: Drop>(stack: &mut Vec<V>, value: V) -> Result<(), NoMemory>
+    ensures { OnOk result (reverse stack.new.items ≡ value ∷ reverse stack.old.items) }
 {
-    let parts = take_parts(stack, nodes.names_of(production));
-    let value = nodes.make(alloc, production, tokens, parts)?;
     stack.push(value)?;
     Ok(())
 }
@@ -148,7 +109,7 @@ fn evaluate<T, V: Drop, N: Nodes<T, V>>(
         if entry == 0 {
             at -= 1;
         } else {
-            reduce(alloc, nodes, entry - 1, &tokens[at..], stack)?;
+            nodes.reduce(alloc, entry - 1, &tokens[at..], stack)?;
         }
     }
     Ok(())

@@ -1,3 +1,4 @@
 mod Fitting
 mod Names
 mod Views
+mod Settled

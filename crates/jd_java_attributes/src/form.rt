@@ -1,6 +1,8 @@
 //! The form of what a node stands for: how high it is, what may be done with it, and what it asks of the operand before it.
 
 ghost use Rattle.std.specs.Prelude.{◌≡◌};
+ghost use Rattle.jd_java_attributes.specs.declared.form.Asked.{Asked};
+ghost use Rattle.jd_java_attributes.specs.declared.form.TheConstants.{EMPTY};
 ghost use Rattle.jd_java_attributes.specs.Forms as plain;
 
 /// What an expression is, or what makes it of the operand that it stands behind.
@@ -156,8 +158,42 @@ fn asked_of_both(a: Form, b: Form) -> Asked
     }
 }
 
+// What is asked where nothing stands behind.
+fn asked_before_nothing(a: Form) -> Asked
+    ensures { result ≡ plain.asked_behind a.kind a.asked Asked.Nothing }
+{
+    if a.kind == Kind::Same {
+        Asked::Nothing
+    } else {
+        a.asked
+    }
+}
+
+// One before nothing.
+#[tactic(auto, using(crate::proofs::Settled::before_nothing))]
+fn before_nothing(a: Form) -> Form
+    ensures { result ≡ plain.in_order a EMPTY }
+{
+    Form {
+        height: a.height.min(201),
+        adds: a.adds.min(201),
+        asked: asked_before_nothing(a),
+        ..a
+    }
+}
+
 /// The one before the other.
 pub(crate) fn in_order(a: Form, b: Form) -> Form
+    ensures { result ≡ plain.in_order a b }
+{
+    if b == EMPTY {
+        return before_nothing(a);
+    }
+    joined(a, b)
+}
+
+// The one before the other, where both may be anything.
+fn joined(a: Form, b: Form) -> Form
     ensures { result ≡ plain.in_order a b }
 {
     let fault = first_of(first_of(a.fault, b.fault), unmet(a.kind, b.asked));

@@ -1,15 +1,20 @@
 //! What the parts of a class tell of its members: their modifiers, and the names of its constructors.
 
-ghost use Rattle.std.specs.Prelude.{◌≡◌, map};
+ghost use Rattle.std.specs.Prelude.{◌≡◌, List, IfOk, IfSome, map, true};
 ghost use Rattle.std.specs.Option.{option_map};
+ghost use Rattle.jd_grammar.specs.declared.fold.NodeParts.{NodeParts};
+ghost use Rattle.jd_java_tokens.specs.Contents.{PlainLexeme};
 ghost use Rattle.jd_java_tokens.specs.Lexemes.{lexeme_view};
 ghost use Rattle.jd_java_attributes.specs.Headings as plain;
-ghost use Rattle.jd_java_attributes.specs.Headings.{constructor_view, heading_view, headings_view};
+ghost use Rattle.jd_java_attributes.specs.Folding.{named, told_view, told_views};
+ghost use Rattle.jd_java_attributes.specs.Headings.{PlainHeading, bare, constructor_view, heading_view, headings_view};
 
 use crate::form::first_of;
 use crate::rows::Rule;
+use jd_base::NoMemory;
 use jd_grammar::NodeParts;
 use jd_java_tokens::{Lexeme, place_of, text_of};
+use std::alloc::Global;
 
 /// What a member is, with the place that tells.
 #[derive(Clone, Copy)]
@@ -48,6 +53,17 @@ pub struct Heading<'a> {
     pub other: Option<u32>,
     /// The place of the first token with which no file goes on.
     pub fault: Option<u32>,
+}
+
+/// The same, where most nodes tell nothing.
+#[derive(Drop)]
+pub enum Told<'a> {
+    /// Nothing.
+    Nothing,
+    /// A name alone.
+    Name(&'a [u8]),
+    /// More.
+    More(Box<Heading<'a>>),
 }
 
 /// What nothing tells.
@@ -189,12 +205,8 @@ fn declaration<'a>(name: &'a [u8], heading: Heading<'a>) -> Heading<'a>
     }
 }
 
-/// What a node of this rule tells.
-pub(crate) fn heading_of<'a>(
-    rule: Rule,
-    tokens: &[Lexeme<'a>],
-    parts: NodeParts<Heading<'a>>,
-) -> Heading<'a>
+// What a node of this rule tells.
+fn heading_of<'a>(rule: Rule, tokens: &[Lexeme<'a>], parts: NodeParts<Heading<'a>>) -> Heading<'a>
     ensures { heading_view result ≡ plain.told rule (map lexeme_view tokens.now) (headings_view parts.entry) }
 {
     let all = all_joined(parts);
@@ -229,5 +241,114 @@ pub(crate) fn heading_of<'a>(
             ..all
         },
         _ => all,
+    }
+}
+
+/// The heading that it is.
+pub(crate) fn heading_in<'a>(told: Told<'a>) -> Heading<'a>
+    ensures { heading_view result ≡ told_view told.entry }
+{
+    match told {
+        Told::Nothing => BARE,
+        Told::Name(name) => Heading { name, ..BARE },
+        Told::More(heading) => Box::into_inner(heading),
+    }
+}
+
+fn headings_in<'a>(parts: NodeParts<Told<'a>>) -> NodeParts<Heading<'a>>
+    ensures { headings_view result ≡ told_views parts.entry }
+{
+    NodeParts {
+        first: heading_in(parts.first),
+        second: heading_in(parts.second),
+        third: heading_in(parts.third),
+        fourth: heading_in(parts.fourth),
+    }
+}
+
+// Whether it tells a name at most.
+fn is_quiet(told: &Told<'_>) -> bool
+    ensures { result ≡ true → told_view told.now ≡ named (told_view told.now).name }
+{
+    match told {
+        Told::More(_) => false,
+        _ => true,
+    }
+}
+
+// Whether parts tell nothing together.
+fn are_quiet(parts: &NodeParts<Told<'_>>) -> bool
+    ensures { result ≡ true → plain.all_joined (told_views parts.now) ≡ bare }
+{
+    if !is_quiet(&parts.first) {
+        return false;
+    }
+    if !is_quiet(&parts.second) {
+        return false;
+    }
+    if !is_quiet(&parts.third) {
+        return false;
+    }
+    is_quiet(&parts.fourth)
+}
+
+// Whether a node of this rule tells what its parts tell together.
+fn tells_parts(rule: Rule) -> bool
+    ensures { result ≡ true → (ts : List PlainLexeme) (parts : NodeParts PlainHeading) → plain.told rule ts parts ≡ plain.all_joined parts }
+{
+    match rule {
+        Rule::Static
+        | Rule::Final
+        | Rule::Fields
+        | Rule::Constant
+        | Rule::Constructor
+        | Rule::Declaration
+        | Rule::Member
+        | Rule::Parameter
+        | Rule::Class
+        | Rule::Identifier => false,
+        _ => true,
+    }
+}
+
+// What a node tells where its parts tell nothing together and it is none that tells more than a name.
+fn told_quietly<'a>(
+    rule: Rule,
+    tokens: &[Lexeme<'a>],
+    parts: &NodeParts<Told<'a>>,
+) -> Option<Told<'a>>
+    ensures { IfSome result (λ t. told_view t ≡ plain.told rule (map lexeme_view tokens.now) (told_views parts.now)) }
+{
+    if !are_quiet(parts) {
+        return None;
+    }
+    if tells_parts(rule) {
+        return Some(Told::Nothing);
+    }
+    match rule {
+        Rule::Identifier => Some(Told::Name(text_of(tokens))),
+        _ => None,
+    }
+}
+
+fn boxed<'a>(alloc: Global, heading: Heading<'a>) -> Result<Told<'a>, NoMemory>
+    ensures { IfOk result (λ t. told_view t ≡ heading_view heading.entry) }
+{
+    let heading = Box::new(alloc, heading)?;
+    Ok(Told::More(heading))
+}
+
+/// What a node of this rule tells.
+pub(crate) fn told_by<'a>(
+    alloc: Global,
+    rule: Rule,
+    tokens: &[Lexeme<'a>],
+    parts: NodeParts<Told<'a>>,
+) -> Result<Told<'a>, NoMemory>
+    ensures { IfOk result (λ t. told_view t ≡ plain.told rule (map lexeme_view tokens.now) (told_views parts.entry)) }
+{
+    match told_quietly(rule, tokens, &parts) {
+        Some(told) => Ok(told),
+        None => boxed(alloc, heading_of(rule, tokens, headings_in(parts))),
     }
 }

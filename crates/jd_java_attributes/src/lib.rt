@@ -12,5 +12,5 @@ mod rules;
 pub use form::{Asked, Form, Kind};
 pub use heading::{Constructor, Declared, Heading};
 pub use laws::rows_fit;
-pub use nodes::{Attributes, JavaNodes, judge};
+pub use nodes::{Attributes, judge};
 pub use rows::{Row, Rule, names_of};

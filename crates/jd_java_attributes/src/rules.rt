@@ -1,11 +1,13 @@
 //! What a node's rule makes of the attributes of its parts.
 
-ghost use Rattle.std.specs.Prelude.{◌≡◌, map};
+ghost use Rattle.std.specs.Prelude.{◌≡◌, List, map, true};
 ghost use Rattle.jd_java_tokens.specs.Lexemes.{lexeme_view};
+ghost use Rattle.jd_java_tokens.specs.Contents.{PlainLexeme};
+ghost use Rattle.jd_java_attributes.specs.Folding.{IsBlank, IsSettled, alone};
 ghost use Rattle.jd_java_attributes.specs.Rules as plain;
 
 use crate::form::{Asked, EMPTY, Form, Kind, first_of, in_order, inside, is_target, up};
-use crate::rows::Rule;
+use crate::rows::{Row, Rule};
 use jd_grammar::NodeParts;
 use jd_java_tokens::{Lexeme, place_of};
 
@@ -216,8 +218,8 @@ fn made(rule: Rule, count: u8, tokens: &[Lexeme<'_>], parts: NodeParts<Form>) ->
     }
 }
 
-/// The form of a node of this rule, with so many tokens beside its parts.
-pub(crate) fn form_of(rule: Rule, count: u8, tokens: &[Lexeme<'_>], parts: NodeParts<Form>) -> Form
+// The form of a node of this rule, with so many tokens beside its parts.
+fn form_of(rule: Rule, count: u8, tokens: &[Lexeme<'_>], parts: NodeParts<Form>) -> Form
     ensures { result ≡ plain.with_high (map lexeme_view tokens.now) (plain.made rule count (map lexeme_view tokens.now) parts) }
 {
     let form = made(rule, count, tokens, parts);
@@ -225,4 +227,96 @@ pub(crate) fn form_of(rule: Rule, count: u8, tokens: &[Lexeme<'_>], parts: NodeP
         high: high_at(tokens, form),
         ..form
     }
+}
+
+// Whether there is nothing behind the first part.
+fn is_alone(parts: NodeParts<Form>) -> bool
+    ensures { result ≡ true → parts ≡ alone parts.first }
+{
+    if parts.second != EMPTY {
+        return false;
+    }
+    if parts.third != EMPTY {
+        return false;
+    }
+    parts.fourth == EMPTY
+}
+
+// Whether it is not too high.
+#[tactic(auto, using(crate::proofs::Settled::not_too_high))]
+fn is_low(form: Form) -> bool
+    ensures { result ≡ true → (ts : List PlainLexeme) → plain.high_at ts form form.high ≡ form.high }
+{
+    if form.height > 200 {
+        return false;
+    }
+    form.nesting <= 200
+}
+
+// Whether the place of what is too high in it is known, if something is.
+#[tactic(auto, using(crate::proofs::Settled::already_marked))]
+fn is_marked(form: Form) -> bool
+    ensures { result ≡ true → (ts : List PlainLexeme) → plain.high_at ts form form.high ≡ form.high }
+{
+    match form.high {
+        Some(_) => true,
+        None => is_low(form),
+    }
+}
+
+// Whether an expression of this form alone has this form.
+fn is_settled(form: Form) -> bool
+    ensures { result ≡ true → IsSettled form }
+{
+    if form.adds != 0 {
+        return false;
+    }
+    if form.height > 201 {
+        return false;
+    }
+    if !is_marked(form) {
+        return false;
+    }
+    form.asked == Asked::Nothing
+}
+
+// Whether a node's form is that of its first part, as of a level of expressions without an operator of that level.
+#[tactic(auto, using(crate::proofs::Settled::stays, crate::proofs::Settled::stays_whole))]
+fn is_first(rule: Rule, count: u8, parts: NodeParts<Form>) -> bool
+    ensures { result ≡ true → (ts : List PlainLexeme) → plain.with_high ts (plain.made rule count ts parts) ≡ parts.first }
+{
+    if count != 0 {
+        return false;
+    }
+    if !is_alone(parts) {
+        return false;
+    }
+    if !is_settled(parts.first) {
+        return false;
+    }
+    match rule {
+        Rule::Expression | Rule::Parts => true,
+        _ => false,
+    }
+}
+
+/// Whether nodes of this row have nothing in them.
+pub(crate) fn is_blank(row: Row) -> bool
+    ensures { result ≡ true → IsBlank row }
+{
+    match row {
+        (0, 0, Rule::Parts) => true,
+        _ => false,
+    }
+}
+
+/// The form of a node of this row.
+pub(crate) fn form_by(row: Row, tokens: &[Lexeme<'_>], parts: NodeParts<Form>) -> Form
+    ensures { result ≡ plain.with_high (map lexeme_view tokens.now) (plain.made row.2 row.0 (map lexeme_view tokens.now) parts) }
+{
+    let (count, _, rule) = row;
+    if is_first(rule, count, parts) {
+        return parts.first;
+    }
+    form_of(rule, count, tokens, parts)
 }

@@ -8,12 +8,12 @@ use jd_base::{NoMemory, both};
 use jd_java_values::{Suffix, appended, with};
 use std::alloc::Global;
 
+/// What stands behind an operand, where memory sufficed for it.
+pub type Behind = Result<Vec<Suffix>, NoMemory>;
+
 /// Suffixes, and others behind them.
-#[tactic(auto, using(crate::proofs::Backwards::suffixes_joined))]
-pub fn followed(
-    suffixes: Vec<Suffix>,
-    behind: Result<Vec<Suffix>, NoMemory>,
-) -> Result<Vec<Suffix>, NoMemory>
+#[tactic(auto, using(jd_java_values::proofs::Backwards::others_first))]
+pub fn followed(suffixes: Vec<Suffix>, behind: Behind) -> Behind
     ensures { (x : List PlainSuffix) → Gives (backwards suffix_view) behind x → Gives (backwards suffix_view) result (backwards suffix_view suffixes ++ x) }
 {
     let (suffixes, behind) = both(Ok(suffixes), behind)?;
@@ -21,11 +21,8 @@ pub fn followed(
 }
 
 /// A suffix, and others behind it.
-#[tactic(auto, using(crate::proofs::Backwards::suffixes_more))]
-pub fn begins(
-    suffix: Suffix,
-    behind: Result<Vec<Suffix>, NoMemory>,
-) -> Result<Vec<Suffix>, NoMemory>
+#[tactic(auto, using(jd_java_values::proofs::Backwards::one_more))]
+pub fn begins(suffix: Suffix, behind: Behind) -> Behind
     ensures { (x : List PlainSuffix) → Gives (backwards suffix_view) behind x → Gives (backwards suffix_view) result (suffix_view suffix ∷ x) }
 {
     let (suffix, behind) = both(Ok(suffix), behind)?;
@@ -33,8 +30,8 @@ pub fn begins(
 }
 
 /// A suffix alone.
-#[tactic(auto, using(crate::proofs::Backwards::suffixes_more))]
-pub fn alone(alloc: Global, suffix: Suffix) -> Result<Vec<Suffix>, NoMemory>
+#[tactic(auto, using(jd_java_values::proofs::Backwards::one_more))]
+pub fn alone(alloc: Global, suffix: Suffix) -> Behind
     ensures { Gives (backwards suffix_view) result (suffix_view suffix ∷ []) }
 {
     with(Vec::new(alloc), suffix)

@@ -8,7 +8,6 @@ mod calls;
 mod chains;
 mod dispatch;
 mod forms;
-mod nodes;
 mod operands;
 mod pieces;
 mod starts;

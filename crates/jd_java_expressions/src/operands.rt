@@ -1,25 +1,21 @@
-//! Operands with what stands behind them.
+//! Nodes of operands with what stands behind them, from what their parts are.
 
-ghost use Rattle.std.specs.Prelude.{◌≡◌, ℕ, List, [], map};
+ghost use Rattle.std.specs.Prelude.{◌≡◌, List, map, option_map};
+ghost use Rattle.jd_java_tokens.specs.Heads as heads;
 ghost use Rattle.jd_java_tokens.specs.Lexemes.{lexeme_view};
 ghost use Rattle.jd_syntax.specs.JavaTrees as java;
 ghost use Rattle.jd_syntax.specs.JavaTrees.{JavaExpr, java_view};
 ghost use Rattle.jd_java_values.specs.Values.{Expression, PlainSuffix};
-ghost use Rattle.jd_java_values.specs.Views.{Gives, backwards, parts_view, start_view, suffix_view, value_view};
-ghost use Rattle.jd_java_expressions.specs.declared.action.Action.TheVariants as actions;
+ghost use Rattle.jd_java_values.specs.Views.{Gives, backwards, in_order, start_view, suffix_view, value_view};
 ghost use Rattle.jd_java_expressions.specs.Applying as plain;
-ghost use Rattle.jd_java_expressions.specs.Meaning.{begun_at, effect_of_name, meaning};
+ghost use Rattle.jd_java_expressions.specs.Meaning as nodes;
 
 use crate::applying::{all_applied, applied_name, name_or_call};
+use crate::chains::Behind;
 use crate::forms;
-use crate::nodes::discard;
-use crate::pieces::{
-    all_suffixes, arguments_and_behind, expression_and_behind, first_expression, first_part,
-};
 use jd_base::{NoMemory, both};
-use jd_grammar::NodeParts;
 use jd_java_tokens::{Lexeme, place_of, text_of};
-use jd_java_values::{Start, Suffix, Value};
+use jd_java_values::{Start, Value, discard};
 use jd_syntax::{Expr, ExprForm, PrefixOperator};
 use std::alloc::Global;
 
@@ -31,69 +27,52 @@ fn given(e: Result<Expr, NoMemory>) -> Result<Value, NoMemory>
 }
 
 // An operand with what stands behind it.
-fn continued(
-    alloc: Global,
-    e: Result<Expr, NoMemory>,
-    behind: Result<Vec<Suffix>, NoMemory>,
-) -> Result<Value, NoMemory>
+fn continued(alloc: Global, e: Result<Expr, NoMemory>, behind: Behind) -> Result<Value, NoMemory>
     ensures { (x : JavaExpr) (ss : List PlainSuffix) → Gives java_view e x → Gives (backwards suffix_view) behind ss → Gives value_view result (Expression (plain.all_applied x ss)) }
 {
     let (e, behind) = both(e, behind)?;
     given(all_applied(alloc, Ok(e), behind))
 }
 
-/// An operand that is the first part.
-pub fn operand(alloc: Global, parts: NodeParts<Value>) -> Result<Value, NoMemory>
-    ensures { Gives value_view result (meaning actions.Operand [] (parts_view parts)) }
+/// An operand.
+pub fn operand(alloc: Global, parts: (Expr, Behind)) -> Result<Value, NoMemory>
+    ensures { (ss : List PlainSuffix) → Gives (backwards suffix_view) parts.1 ss → Gives value_view result (Expression (plain.all_applied (java_view parts.0) ss)) }
 {
-    let (e, behind) = expression_and_behind(alloc, parts);
+    let (e, behind) = parts;
     continued(alloc, Ok(e), behind)
 }
 
-/// A name or a call.
+/// A name, or its call where there are arguments.
 pub fn name(
     alloc: Global,
     tokens: &[Lexeme<'_>],
-    parts: NodeParts<Value>,
+    parts: (Option<Vec<Expr>>, Behind),
 ) -> Result<Value, NoMemory>
-    ensures { Gives value_view result (meaning actions.Name (map lexeme_view tokens.now) (parts_view parts)) }
+    ensures { (ss : List PlainSuffix) → Gives (backwards suffix_view) parts.1 ss → Gives value_view result (Expression (plain.all_applied (plain.named (heads.place_of 0 (map lexeme_view tokens.now)) (heads.text_of (map lexeme_view tokens.now)) (option_map (in_order java_view) parts.0)) ss)) }
 {
-    let (arguments, behind) = arguments_and_behind(alloc, parts);
+    let (arguments, behind) = parts;
     let e = name_or_call(alloc, place_of(0, tokens), text_of(tokens), arguments);
     continued(alloc, e, behind)
 }
 
-// `this`
-fn this_at(at: u32) -> Expr
-    ensures { java_view result ≡ java.This at }
-{
-    Expr {
-        at,
-        form: ExprForm::This,
-    }
-}
-
 /// `this`
-pub fn this(
-    alloc: Global,
-    tokens: &[Lexeme<'_>],
-    parts: NodeParts<Value>,
-) -> Result<Value, NoMemory>
-    ensures { Gives value_view result (meaning actions.This (map lexeme_view tokens.now) (parts_view parts)) }
+pub fn this(alloc: Global, tokens: &[Lexeme<'_>], behind: Behind) -> Result<Value, NoMemory>
+    ensures { (ss : List PlainSuffix) → Gives (backwards suffix_view) behind ss → Gives value_view result (Expression (plain.all_applied (java.This (heads.place_of 0 (map lexeme_view tokens.now))) ss)) }
 {
-    let behind = all_suffixes(alloc, parts);
-    continued(alloc, Ok(this_at(place_of(0, tokens))), behind)
+    let at = place_of(0, tokens);
+    let form = ExprForm::This;
+    continued(alloc, Ok(Expr { at, form }), behind)
 }
 
 /// `(e)`
 pub fn inside(
     alloc: Global,
     tokens: &[Lexeme<'_>],
-    parts: NodeParts<Value>,
+    parts: (Expr, Behind),
 ) -> Result<Value, NoMemory>
-    ensures { Gives value_view result (meaning actions.Inside (map lexeme_view tokens.now) (parts_view parts)) }
+    ensures { (ss : List PlainSuffix) → Gives (backwards suffix_view) parts.1 ss → Gives value_view result (Expression (plain.all_applied (java.Parenthesized (heads.place_of 0 (map lexeme_view tokens.now)) (java_view parts.0)) ss)) }
 {
-    let (e, behind) = expression_and_behind(alloc, parts);
+    let (e, behind) = parts;
     let operand = forms::parenthesized(alloc, place_of(0, tokens), e);
     continued(alloc, operand, behind)
 }
@@ -103,11 +82,10 @@ pub fn prefix(
     alloc: Global,
     op: PrefixOperator,
     tokens: &[Lexeme<'_>],
-    parts: NodeParts<Value>,
+    e: Expr,
 ) -> Result<Value, NoMemory>
-    ensures { Gives value_view result (meaning (actions.Prefix op) (map lexeme_view tokens.now) (parts_view parts)) }
+    ensures { Gives value_view result (Expression (java.Prefix (heads.place_of 0 (map lexeme_view tokens.now)) op (java_view e))) }
 {
-    let e = first_expression(parts);
     given(forms::prefix(alloc, place_of(0, tokens), op, e))
 }
 
@@ -125,7 +103,7 @@ fn started(alloc: Global, at: u32, start: Start) -> Result<Expr, NoMemory>
 
 // The same with what stands behind it.
 fn begun_at(alloc: Global, at: u32, value: Value) -> Result<Expr, NoMemory>
-    ensures { Gives java_view result (begun_at at (value_view value)) }
+    ensures { Gives java_view result (nodes.begun_at at (value_view value)) }
 {
     match value {
         Value::Started(start, behind) => all_applied(alloc, started(alloc, at, start), behind),
@@ -140,19 +118,15 @@ fn begun_at(alloc: Global, at: u32, value: Value) -> Result<Expr, NoMemory>
 }
 
 /// What begins with `(` or `new`.
-pub fn begun(
-    alloc: Global,
-    tokens: &[Lexeme<'_>],
-    parts: NodeParts<Value>,
-) -> Result<Value, NoMemory>
-    ensures { Gives value_view result (meaning actions.Begun (map lexeme_view tokens.now) (parts_view parts)) }
+pub fn begun(alloc: Global, tokens: &[Lexeme<'_>], part: Value) -> Result<Value, NoMemory>
+    ensures { Gives value_view result (Expression (nodes.begun_at (heads.place_of 0 (map lexeme_view tokens.now)) (value_view part))) }
 {
-    given(begun_at(alloc, place_of(0, tokens), first_part(parts)))
+    given(begun_at(alloc, place_of(0, tokens), part))
 }
 
 // A name with what makes it a statement.
 fn effect_of(alloc: Global, at: u32, text: &[u8], value: Value) -> Result<Expr, NoMemory>
-    ensures { Gives java_view result (effect_of_name at text.now (value_view value)) }
+    ensures { Gives java_view result (nodes.effect_of_name at text.now (value_view value)) }
 {
     match value {
         Value::BehindName(arguments, behind, others) => {
@@ -167,13 +141,8 @@ fn effect_of(alloc: Global, at: u32, text: &[u8], value: Value) -> Result<Expr, 
 }
 
 /// A name, and what makes it a statement.
-pub fn name_effect(
-    alloc: Global,
-    tokens: &[Lexeme<'_>],
-    parts: NodeParts<Value>,
-) -> Result<Value, NoMemory>
-    ensures { Gives value_view result (meaning actions.NameEffect (map lexeme_view tokens.now) (parts_view parts)) }
+pub fn name_effect(alloc: Global, tokens: &[Lexeme<'_>], part: Value) -> Result<Value, NoMemory>
+    ensures { Gives value_view result (Expression (nodes.effect_of_name (heads.place_of 0 (map lexeme_view tokens.now)) (heads.text_of (map lexeme_view tokens.now)) (value_view part))) }
 {
-    let behind = first_part(parts);
-    given(effect_of(alloc, place_of(0, tokens), text_of(tokens), behind))
+    given(effect_of(alloc, place_of(0, tokens), text_of(tokens), part))
 }

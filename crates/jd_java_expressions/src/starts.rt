@@ -1,38 +1,33 @@
-//! What stands behind `(` and `new` (JLS 15.8.5, 15.9, 15.10, 15.16).
+//! Nodes of what stands behind `(` and `new` (JLS 15.8.5, 15.9, 15.10, 15.16), from what their parts are.
 
 ghost use Rattle.std.specs.Prelude.{◌≡◌, List, [], map};
 ghost use Rattle.jd_java_tokens.specs.Lexemes.{lexeme_view};
-ghost use Rattle.jd_syntax.specs.JavaTypes.{written_view};
+ghost use Rattle.jd_syntax.specs.JavaTypes.{identifier_view, written_view};
 ghost use Rattle.jd_syntax.specs.JavaTrees.{java_view};
-ghost use Rattle.jd_java_values.specs.Values.{Cast, PlainSuffix, Started};
-ghost use Rattle.jd_java_values.specs.Views.{Gives, backwards, parts_view, start_view, suffix_view, value_view};
-ghost use Rattle.jd_java_expressions.specs.declared.action.Action.TheVariants as actions;
+ghost use Rattle.jd_java_values.specs.Values.{Array, Cast, Object, PlainSuffix, Started};
+ghost use Rattle.jd_java_values.specs.Parts.{expressions_of};
+ghost use Rattle.jd_java_values.specs.Views.{Gives, backwards, start_view, suffix_view, value_view};
 ghost use Rattle.jd_java_expressions.specs.Applying as plain;
-ghost use Rattle.jd_java_expressions.specs.Meaning as plain_meaning;
-ghost use Rattle.jd_java_expressions.specs.Meaning.{meaning};
+ghost use Rattle.jd_java_expressions.specs.Meaning as nodes;
 
 use crate::calls::ordered;
-use crate::nodes::discard;
-use crate::pieces::{
-    expression_and_behind, expression_and_second, first_expression, first_part, name_and_behind,
-};
+use crate::chains::Behind;
 use jd_base::{NoMemory, both};
-use jd_grammar::NodeParts;
 use jd_java_tokens::Lexeme;
-use jd_java_values::{Start, Suffix, Value, expression, expressions, suffixes, type_at};
-use jd_syntax::{Expr, ExprForm, JavaType, WrittenType};
+use jd_java_values::{Start, Value, discard, expression, expressions, suffixes, type_at};
+use jd_syntax::{Expr, ExprForm, Identifier, JavaType, WrittenType};
 use std::alloc::Global;
 
 // What begins a node and what stands behind it, as what the node stands for.
-fn given(start: Start, behind: Result<Vec<Suffix>, NoMemory>) -> Result<Value, NoMemory>
+fn given(start: Start, behind: Behind) -> Result<Value, NoMemory>
     ensures { (ss : List PlainSuffix) → Gives (backwards suffix_view) behind ss → Gives value_view result (Started (start_view start) ss) }
 {
     let (start, behind) = both(Ok(start), behind)?;
     Ok(Value::Started(start, behind))
 }
 
-// `T` behind `(`, and what is cast to it.
-fn cast(alloc: Global, written: WrittenType, e: Expr) -> Value
+/// A type behind `(`, and what is cast to it.
+pub fn cast(alloc: Global, written: WrittenType, e: Expr) -> Value
     ensures { value_view result ≡ Started (Cast (written_view written) (java_view e)) [] }
 {
     Value::Started(Start::Cast(written, e), Vec::new(alloc))
@@ -60,7 +55,7 @@ fn class_type(alloc: Global, e: Expr) -> WrittenType
 
 // A class, where an operand stands behind `)`, else an expression in parentheses.
 fn parenthesis_of(alloc: Global, e: Expr, behind: Value) -> Value
-    ensures { value_view result ≡ plain_meaning.parenthesis (java_view e) (value_view behind) }
+    ensures { value_view result ≡ nodes.parenthesis (java_view e) (value_view behind) }
 {
     match behind {
         Value::Expression(operand) => cast(alloc, class_type(alloc, e), operand),
@@ -69,66 +64,36 @@ fn parenthesis_of(alloc: Global, e: Expr, behind: Value) -> Value
 }
 
 /// Behind `(`: an expression in parentheses, or a class and what is cast to it.
-pub fn parenthesis(alloc: Global, parts: NodeParts<Value>) -> Result<Value, NoMemory>
-    ensures { Gives value_view result (meaning actions.Parenthesis [] (parts_view parts)) }
+pub fn parenthesis(alloc: Global, parts: (Expr, Value)) -> Value
+    ensures { value_view result ≡ nodes.parenthesis (java_view parts.0) (value_view parts.1) }
 {
-    let (e, behind) = expression_and_second(parts);
-    Ok(parenthesis_of(alloc, e, behind))
+    let (e, behind) = parts;
+    parenthesis_of(alloc, e, behind)
 }
 
-// `int` or `int[]` behind `(`, and what is cast to it.
-fn int_cast_of(alloc: Global, tokens: &[Lexeme<'_>], value: Value) -> Value
-    ensures { value_view result ≡ plain_meaning.int_cast (map lexeme_view tokens.now) (value_view value) }
+/// Behind `(`: `int` or `int[]`, and what is cast to it.
+pub fn int_cast(alloc: Global, tokens: &[Lexeme<'_>], part: Value) -> Value
+    ensures { value_view result ≡ nodes.int_cast (map lexeme_view tokens.now) (value_view part) }
 {
-    match value {
+    match part {
         Value::ArrayOperand(e) => cast(alloc, type_at(tokens, JavaType::IntArray), e),
         other => cast(alloc, type_at(tokens, JavaType::Int), expression(other)),
     }
 }
 
-/// Behind `(`: `int` or `int[]`, and what is cast to it.
-pub fn int_cast(
-    alloc: Global,
-    tokens: &[Lexeme<'_>],
-    parts: NodeParts<Value>,
-) -> Result<Value, NoMemory>
-    ensures { Gives value_view result (meaning actions.IntCast (map lexeme_view tokens.now) (parts_view parts)) }
-{
-    Ok(int_cast_of(alloc, tokens, first_part(parts)))
-}
-
-/// Behind `(`: `boolean`, and what is cast to it.
-pub fn boolean_cast(
-    alloc: Global,
-    tokens: &[Lexeme<'_>],
-    parts: NodeParts<Value>,
-) -> Result<Value, NoMemory>
-    ensures { Gives value_view result (meaning actions.BooleanCast (map lexeme_view tokens.now) (parts_view parts)) }
-{
-    let e = first_expression(parts);
-    Ok(cast(alloc, type_at(tokens, JavaType::Boolean), e))
-}
-
-/// What is cast to `int[]`.
-pub fn array_operand(parts: NodeParts<Value>) -> Result<Value, NoMemory>
-    ensures { Gives value_view result (meaning actions.ArrayOperand [] (parts_view parts)) }
-{
-    Ok(Value::ArrayOperand(first_expression(parts)))
-}
-
 /// Behind `new`: an object.
-pub fn object(alloc: Global, parts: NodeParts<Value>) -> Result<Value, NoMemory>
-    ensures { Gives value_view result (meaning actions.Object [] (parts_view parts)) }
+pub fn object(alloc: Global, parts: (Identifier, Value, Behind)) -> Result<Value, NoMemory>
+    ensures { (ss : List PlainSuffix) → Gives (backwards suffix_view) parts.2 ss → Gives value_view result (Started (Object (identifier_view parts.0) (expressions_of (value_view parts.1))) ss) }
 {
-    let (class, call, behind) = name_and_behind(alloc, parts);
+    let (class, call, behind) = parts;
     let arguments = ordered(expressions(alloc, call));
     given(Start::Object(class, arguments), behind)
 }
 
 /// Behind `new`: an array.
-pub fn array(alloc: Global, parts: NodeParts<Value>) -> Result<Value, NoMemory>
-    ensures { Gives value_view result (meaning actions.Array [] (parts_view parts)) }
+pub fn array(parts: (Expr, Behind)) -> Result<Value, NoMemory>
+    ensures { (ss : List PlainSuffix) → Gives (backwards suffix_view) parts.1 ss → Gives value_view result (Started (Array (java_view parts.0)) ss) }
 {
-    let (length, behind) = expression_and_behind(alloc, parts);
+    let (length, behind) = parts;
     given(Start::Array(length), behind)
 }

@@ -14,15 +14,19 @@ use crate::declarations::{
 };
 use crate::members::{member, members_before};
 use crate::parameters::{modifiers_before, parameter, parameters_before, specs};
-use crate::parts::taken;
 use jd_base::NoMemory;
 use jd_grammar::NodeParts;
 use jd_java_tokens::Lexeme;
-use jd_java_values::Value;
+use jd_java_values::{Value, taken};
 use std::alloc::Global;
 
-// What a node stands for; the parts that it needs are taken out of their places.
-fn made(
+/// What a node stands for, by its action, its tokens from the first on, and what its parts stand for. The parts that it needs are taken
+/// out of their places.
+///
+/// # Errors
+///
+/// `NoMemory`.
+pub fn act(
     alloc: Global,
     action: Action,
     tokens: &[Lexeme<'_>],
@@ -60,21 +64,4 @@ fn made(
         Action::NoParameters => Ok(Value::Parameters(Vec::new(alloc))),
         Action::Parameter => parameter(alloc, tokens, parts),
     }
-}
-
-/// What a node stands for, by its action, its tokens from the first on, and what its parts stand for.
-///
-/// # Errors
-///
-/// `NoMemory`.
-pub fn act(
-    alloc: Global,
-    action: Action,
-    tokens: &[Lexeme<'_>],
-    parts: NodeParts<Value>,
-) -> Result<Value, NoMemory>
-    ensures { Gives value_view result (meaning action (map lexeme_view tokens.now) (parts_view parts)) }
-{
-    let mut parts = parts;
-    made(alloc, action, tokens, &mut parts)
 }

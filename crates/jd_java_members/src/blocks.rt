@@ -9,12 +9,10 @@ ghost use Rattle.jd_java_values.specs.Views.{Gives, backwards, parts_view, value
 ghost use Rattle.jd_java_members.specs.Meaning as plain;
 ghost use Rattle.jd_java_members.specs.declared.action.Action.TheVariants as actions;
 
-use crate::lists::{ended, last_apart, put_first};
-use crate::parts::{discard, taken};
 use jd_base::{NoMemory, both};
 use jd_grammar::NodeParts;
 use jd_java_tokens::{Lexeme, run_of};
-use jd_java_values::{Value, body};
+use jd_java_values::{Value, body, discard, ended, last_apart, put_first, taken};
 use jd_syntax::{ConstantDecl, FieldDecl, Member, MethodDecl, SpecBlock, SpecPlace};
 use std::alloc::Global;
 
@@ -102,7 +100,7 @@ pub fn body_of(
 }
 
 /// Members behind one that comes first, if it has been made, and the JML before the closing brace.
-#[tactic(auto, using(crate::proofs::Backwards::last_first))]
+#[tactic(auto, using(jd_java_values::proofs::Backwards::last_first))]
 pub fn with_first(
     members: Vec<Member>,
     member: Result<Member, NoMemory>,
@@ -114,7 +112,7 @@ pub fn with_first(
 }
 
 // JML before the first of these members, or before the closing brace where there is none.
-#[tactic(auto, using(crate::proofs::Backwards::last_first))]
+#[tactic(auto, using(jd_java_values::proofs::Backwards::last_first))]
 fn annotated_body(
     alloc: Global,
     tokens: &[Lexeme<'_>],

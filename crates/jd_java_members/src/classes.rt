@@ -8,12 +8,10 @@ ghost use Rattle.jd_java_values.specs.Views.{Gives, backwards, parts_view, value
 ghost use Rattle.jd_java_members.specs.Meaning as plain;
 ghost use Rattle.jd_java_members.specs.declared.action.Action.TheVariants as actions;
 
-use crate::lists::alone;
-use crate::parts::taken;
 use jd_base::NoMemory;
 use jd_grammar::NodeParts;
 use jd_java_tokens::{Lexeme, place_of};
-use jd_java_values::{Value, appended, body, classes, in_order, name, some_name};
+use jd_java_values::{Value, alone, appended, body, classes, in_order, name, some_name, taken};
 use jd_syntax::ClassDecl;
 use std::alloc::Global;
 
@@ -25,7 +23,7 @@ fn classes_given(classes: Result<Vec<ClassDecl>, NoMemory>) -> Result<Value, NoM
 }
 
 /// Classes before others.
-#[tactic(auto, using(crate::proofs::Backwards::reversed_append))]
+#[tactic(auto, using(jd_java_values::proofs::Backwards::reversed_append))]
 pub fn classes_before(alloc: Global, parts: &mut NodeParts<Value>) -> Result<Value, NoMemory>
     ensures { Gives value_view result (plain.meaning actions.Classes [] (parts_view parts.old)) }
 {
@@ -35,7 +33,7 @@ pub fn classes_before(alloc: Global, parts: &mut NodeParts<Value>) -> Result<Val
 }
 
 /// A class.
-#[tactic(auto, using(crate::proofs::Backwards::map_reverse))]
+#[tactic(auto, using(jd_java_values::proofs::Backwards::map_reverse))]
 pub fn class(
     alloc: Global,
     tokens: &[Lexeme<'_>],

@@ -13,13 +13,12 @@ ghost use Rattle.jd_java_values.specs.Views.{Gives, backwards, declared_view, pa
 ghost use Rattle.jd_java_members.specs.Meaning as plain;
 ghost use Rattle.jd_java_members.specs.declared.action.Action.TheVariants as actions;
 
-use crate::parts::taken;
 use jd_base::{NoMemory, both};
 use jd_grammar::NodeParts;
 use jd_java_tokens::{Lexeme, number_of};
 use jd_java_values::{
     Declared, Value, class_at, declared, identifier_at, in_order, int_type, name, names, number,
-    parameters, statements, type_at, with,
+    parameters, statements, taken, type_at, with,
 };
 use jd_syntax::{Identifier, JavaType, ResultType, WrittenType};
 use std::alloc::Global;
@@ -32,7 +31,7 @@ fn names_given(names: Result<Vec<Identifier>, NoMemory>) -> Result<Value, NoMemo
 }
 
 /// A name before others.
-#[tactic(auto, using(crate::proofs::Backwards::last_first))]
+#[tactic(auto, using(jd_java_values::proofs::Backwards::last_first))]
 pub fn name_before(alloc: Global, parts: &mut NodeParts<Value>) -> Result<Value, NoMemory>
     ensures { Gives value_view result (plain.meaning actions.Names [] (parts_view parts.old)) }
 {
@@ -42,7 +41,7 @@ pub fn name_before(alloc: Global, parts: &mut NodeParts<Value>) -> Result<Value,
 }
 
 /// The names of further fields.
-#[tactic(auto, using(crate::proofs::Backwards::map_reverse))]
+#[tactic(auto, using(jd_java_values::proofs::Backwards::map_reverse))]
 pub fn field_names(alloc: Global, parts: &mut NodeParts<Value>) -> Value
     ensures { value_view result ≡ plain.meaning actions.FieldNames [] (parts_view parts.old) }
 {
@@ -51,7 +50,7 @@ pub fn field_names(alloc: Global, parts: &mut NodeParts<Value>) -> Value
 }
 
 /// The parameters and the body of a method or a constructor.
-#[tactic(auto, using(crate::proofs::Backwards::map_reverse))]
+#[tactic(auto, using(jd_java_values::proofs::Backwards::map_reverse))]
 pub fn routine(alloc: Global, parts: &mut NodeParts<Value>) -> Value
     ensures { value_view result ≡ plain.meaning actions.Routine [] (parts_view parts.old) }
 {

@@ -6,10 +6,8 @@ mod acts;
 mod blocks;
 mod classes;
 mod declarations;
-mod lists;
 mod members;
 mod parameters;
-mod parts;
 
 pub use action::Action;
 pub use acts::act;

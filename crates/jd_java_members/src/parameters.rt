@@ -12,12 +12,13 @@ ghost use Rattle.jd_java_members.specs.Meaning as plain;
 ghost use Rattle.jd_java_members.specs.declared.action.Action.TheVariants as actions;
 
 use crate::blocks::block_at;
-use crate::lists::{all_of, alone, ended};
-use crate::parts::{discard, taken};
 use jd_base::NoMemory;
 use jd_grammar::NodeParts;
 use jd_java_tokens::{Lexeme, begins_with_run, place_of};
-use jd_java_values::{Value, appended, in_order, modifiers, name, parameters, typed};
+use jd_java_values::{
+    Value, all_of, alone, appended, discard, ended, in_order, modifiers, name, parameters, taken,
+    typed,
+};
 use jd_syntax::{Identifier, Parameter, SpecBlock, SpecPlace, WrittenType};
 use std::alloc::Global;
 
@@ -37,7 +38,7 @@ fn blocks(alloc: Global, value: &mut Value) -> Vec<SpecBlock>
 }
 
 /// Modifiers before others, with JML between them.
-#[tactic(auto, using(crate::proofs::Backwards::reversed_three))]
+#[tactic(auto, using(jd_java_values::proofs::Backwards::reversed_three))]
 pub fn modifiers_before(alloc: Global, parts: &mut NodeParts<Value>) -> Result<Value, NoMemory>
     ensures { Gives value_view result (plain.meaning actions.Modifiers [] (parts_view parts.old)) }
 {
@@ -68,7 +69,7 @@ fn parameters_given(parameters: Result<Vec<Parameter>, NoMemory>) -> Result<Valu
 }
 
 /// Parameters before others.
-#[tactic(auto, using(crate::proofs::Backwards::reversed_append))]
+#[tactic(auto, using(jd_java_values::proofs::Backwards::reversed_append))]
 pub fn parameters_before(alloc: Global, parts: &mut NodeParts<Value>) -> Result<Value, NoMemory>
     ensures { Gives value_view result (plain.meaning actions.Parameters [] (parts_view parts.old)) }
 {
@@ -89,7 +90,7 @@ fn place_behind_run(tokens: &[Lexeme<'_>]) -> u32
 }
 
 // A parameter, if its JML, the last part first, has been made.
-#[tactic(auto, using(crate::proofs::Backwards::map_reverse))]
+#[tactic(auto, using(jd_java_values::proofs::Backwards::map_reverse))]
 fn parameter_of(
     at: u32,
     specs: Result<Vec<SpecBlock>, NoMemory>,
@@ -121,7 +122,7 @@ fn only_parameter(alloc: Global, parameter: Result<Parameter, NoMemory>) -> Resu
 }
 
 // The JML at modifiers and at others behind them, the last first.
-#[tactic(auto, using(crate::proofs::Backwards::reversed_append))]
+#[tactic(auto, using(jd_java_values::proofs::Backwards::reversed_append))]
 fn all_blocks(
     alloc: Global,
     first: &mut Value,

@@ -3,7 +3,7 @@
 ghost use Rattle.std.specs.Prelude.{◌≡◌, List, [], ◌∷◌, ◌++◌, map, option_map};
 ghost use Rattle.jd_java_tokens.specs.Lexemes.{lexeme_view};
 ghost use Rattle.jd_syntax.specs.JavaTypes.{identifier_view};
-ghost use Rattle.jd_syntax.specs.JavaTrees.{JavaHandler, JavaStmt, java_stmt_view, java_stmts, java_view};
+ghost use Rattle.jd_syntax.specs.JavaTrees.{JavaHandler, java_stmt_view, java_stmts, java_view};
 ghost use Rattle.jd_syntax.specs.JavaTrees as java;
 ghost use Rattle.jd_jcalls.specs.Handlers.{java_handler_view};
 ghost use Rattle.jd_java_values.specs.Parts as plain;
@@ -13,27 +13,23 @@ ghost use Rattle.jd_java_statements.specs.declared.action.Action.{Action};
 ghost use Rattle.jd_java_statements.specs.Meaning as plain_meaning;
 ghost use Rattle.jd_java_statements.specs.Meaning.{meaning};
 
-use crate::forms::{if_else, if_then, stated};
+use crate::forms::{if_else, if_then};
 use crate::ordered::{ordered_statements, some_ordered_statements};
-use crate::parts::{discard, first, four, none, three, two};
 use jd_base::{NoMemory, both};
 use jd_grammar::NodeParts;
 use jd_java_tokens::{Lexeme, place_of};
 use jd_java_values::{
-    Value, appended, expression, handlers, in_order, name, some_statement, statement, with,
+    Value, appended, discard, expression, handlers, in_order, name, some_statement, statement,
+    taken, with,
 };
 use jd_syntax::{Expr, Handler, Identifier, Stmt, StmtForm};
 use std::alloc::Global;
 
-fn chosen(
-    alloc: Global,
-    at: u32,
-    condition: Expr,
-    then: Stmt,
-    or_else: Option<Stmt>,
-) -> Result<Stmt, NoMemory>
-    ensures { Gives java_stmt_view result (plain_meaning.if_statement at (java_view condition) (java_stmt_view then) (option_map java_stmt_view or_else)) }
+// `if (e) s`, or with `else s` where there is one.
+fn chosen(alloc: Global, at: u32, parts: (Expr, Stmt, Option<Stmt>)) -> Result<Value, NoMemory>
+    ensures { Gives value_view result (values.Statement (plain_meaning.if_statement at (java_view parts.0) (java_stmt_view parts.1) (option_map java_stmt_view parts.2))) }
 {
+    let (condition, then, or_else) = parts;
     match or_else {
         None => if_then(alloc, at, condition, then),
         Some(or_else) => if_else(alloc, at, condition, then, or_else),
@@ -44,18 +40,14 @@ fn chosen(
 pub fn if_statement(
     alloc: Global,
     tokens: &[Lexeme<'_>],
-    parts: NodeParts<Value>,
+    parts: &mut NodeParts<Value>,
 ) -> Result<Value, NoMemory>
-    ensures { Gives value_view result (meaning Action.If (map lexeme_view tokens.now) (parts_view parts)) }
+    ensures { Gives value_view result (meaning Action.If (map lexeme_view tokens.now) (parts_view parts.old)) }
 {
-    let (condition, then, or_else) = three(parts);
-    stated(chosen(
-        alloc,
-        place_of(0, tokens),
-        expression(condition),
-        statement(then),
-        some_statement(or_else),
-    ))
+    let condition = expression(taken(&mut parts.first));
+    let then = statement(taken(&mut parts.second));
+    let or_else = some_statement(taken(&mut parts.third));
+    chosen(alloc, place_of(0, tokens), (condition, then, or_else))
 }
 
 fn try_statement(
@@ -89,27 +81,26 @@ fn rescued(alloc: Global, at: u32, statements: Vec<Stmt>, rescue: Value) -> Stmt
 pub fn try_block(
     alloc: Global,
     tokens: &[Lexeme<'_>],
-    parts: NodeParts<Value>,
+    parts: &mut NodeParts<Value>,
 ) -> Result<Value, NoMemory>
-    ensures { Gives value_view result (meaning Action.Try (map lexeme_view tokens.now) (parts_view parts)) }
+    ensures { Gives value_view result (meaning Action.Try (map lexeme_view tokens.now) (parts_view parts.old)) }
 {
-    let (statements, rescue) = two(parts);
-    Ok(Value::Statement(rescued(
-        alloc,
-        place_of(0, tokens),
-        ordered_statements(alloc, statements),
-        rescue,
-    )))
+    let statements = ordered_statements(alloc, taken(&mut parts.first));
+    let rescue = taken(&mut parts.second);
+    Ok(Value::Statement(rescued(alloc, place_of(0, tokens), statements, rescue)))
 }
 
-#[tactic(auto, using(crate::proofs::Lists::others_first))]
-fn joined(alloc: Global, caught: Value, others: Value) -> Result<Vec<Handler>, NoMemory>
-    ensures { Gives (backwards java_handler_view) result (plain.handlers_of (value_view caught) ++ plain.handlers_of (value_view others)) }
+#[tactic(auto, using(jd_java_values::proofs::Backwards::others_first))]
+fn joined(alloc: Global, parts: &mut NodeParts<Value>) -> Result<Vec<Handler>, NoMemory>
+    ensures joined { let p = parts_view parts.old in Gives (backwards java_handler_view) result (plain.handlers_of p.first ++ plain.handlers_of p.second) }
+    ensures rest { parts.new.third ≡ parts.old.third }
 {
-    appended(handlers(alloc, others), handlers(alloc, caught))
+    let caught = handlers(alloc, taken(&mut parts.first));
+    let others = handlers(alloc, taken(&mut parts.second));
+    appended(others, caught)
 }
 
-#[tactic(auto, using(crate::proofs::Lists::turned))]
+#[tactic(auto, using(jd_java_values::proofs::Backwards::turned))]
 fn rescue_of(
     handlers: Result<Vec<Handler>, NoMemory>,
     finally: Option<Vec<Stmt>>,
@@ -121,21 +112,18 @@ fn rescue_of(
 }
 
 /// A `catch`, others, and what stands behind `finally`.
-pub fn rescue(alloc: Global, parts: NodeParts<Value>) -> Result<Value, NoMemory>
-    ensures { Gives value_view result (meaning Action.Rescue [] (parts_view parts)) }
+pub fn rescue(alloc: Global, parts: &mut NodeParts<Value>) -> Result<Value, NoMemory>
+    ensures { Gives value_view result (meaning Action.Rescue [] (parts_view parts.old)) }
 {
-    let (caught, others, finally) = three(parts);
-    rescue_of(
-        joined(alloc, caught, others),
-        some_ordered_statements(finally),
-    )
+    let caught = joined(alloc, parts);
+    rescue_of(caught, some_ordered_statements(taken(&mut parts.third)))
 }
 
 /// What stands behind `finally`, without a `catch`.
-pub fn finally(alloc: Global, parts: NodeParts<Value>) -> Result<Value, NoMemory>
-    ensures { Gives value_view result (meaning Action.Finally [] (parts_view parts)) }
+pub fn finally(alloc: Global, parts: &mut NodeParts<Value>) -> Result<Value, NoMemory>
+    ensures { Gives value_view result (meaning Action.Finally [] (parts_view parts.old)) }
 {
-    let finally = some_ordered_statements(first(parts));
+    let finally = some_ordered_statements(taken(&mut parts.first));
     Ok(Value::Rescue(Vec::new(alloc), finally))
 }
 
@@ -146,19 +134,10 @@ fn caught(handlers: Result<Vec<Handler>, NoMemory>) -> Result<Value, NoMemory>
 }
 
 /// Several `catch`.
-pub fn several_handlers(alloc: Global, parts: NodeParts<Value>) -> Result<Value, NoMemory>
-    ensures { Gives value_view result (meaning Action.Handlers [] (parts_view parts)) }
+pub fn several_handlers(alloc: Global, parts: &mut NodeParts<Value>) -> Result<Value, NoMemory>
+    ensures { Gives value_view result (meaning Action.Handlers [] (parts_view parts.old)) }
 {
-    let (head, others) = two(parts);
-    caught(joined(alloc, head, others))
-}
-
-/// No `catch`.
-pub fn no_handlers(alloc: Global, parts: NodeParts<Value>) -> Result<Value, NoMemory>
-    ensures { Gives value_view result (meaning Action.NoHandlers [] (parts_view parts)) }
-{
-    none(parts);
-    Ok(Value::Handlers(Vec::new(alloc)))
+    caught(joined(alloc, parts))
 }
 
 fn handler(at: u32, class: Identifier, name: Identifier, body: Vec<Stmt>) -> Handler
@@ -172,7 +151,7 @@ fn handler(at: u32, class: Identifier, name: Identifier, body: Vec<Stmt>) -> Han
     }
 }
 
-#[tactic(auto, using(crate::proofs::Lists::one_more))]
+#[tactic(auto, using(jd_java_values::proofs::Backwards::one_more))]
 fn alone(alloc: Global, handler: Handler) -> Result<Vec<Handler>, NoMemory>
     ensures { Gives (backwards java_handler_view) result (java_handler_view handler ∷ []) }
 {
@@ -183,17 +162,12 @@ fn alone(alloc: Global, handler: Handler) -> Result<Vec<Handler>, NoMemory>
 pub fn catch(
     alloc: Global,
     tokens: &[Lexeme<'_>],
-    parts: NodeParts<Value>,
+    parts: &mut NodeParts<Value>,
 ) -> Result<Value, NoMemory>
-    ensures { Gives value_view result (meaning Action.Catch (map lexeme_view tokens.now) (parts_view parts)) }
+    ensures { Gives value_view result (meaning Action.Catch (map lexeme_view tokens.now) (parts_view parts.old)) }
 {
-    let (modifier, class, bound, body) = four(parts);
-    discard(modifier);
-    let handler = handler(
-        place_of(0, tokens),
-        name(alloc, class),
-        name(alloc, bound),
-        ordered_statements(alloc, body),
-    );
-    caught(alone(alloc, handler))
+    let class = name(alloc, taken(&mut parts.second));
+    let bound = name(alloc, taken(&mut parts.third));
+    let body = ordered_statements(alloc, taken(&mut parts.fourth));
+    caught(alone(alloc, handler(place_of(0, tokens), class, bound, body)))
 }

@@ -2,7 +2,7 @@
 
 ghost use Rattle.std.specs.Prelude.{◌≡◌, ℕ, List, IfOk, option_map};
 ghost use Rattle.jd_syntax.specs.JavaTypes.{PlainWritten, written_view};
-ghost use Rattle.jd_syntax.specs.JavaTrees.{JavaDeclarator, JavaExpr, JavaStmt, declarator_view, for_start_view, java_stmt_view, java_view};
+ghost use Rattle.jd_syntax.specs.JavaTrees.{JavaDeclarator, declarator_view, for_start_view, java_stmt_view, java_view};
 ghost use Rattle.jd_syntax.specs.JavaTrees as java;
 ghost use Rattle.jd_java_values.specs.Values.{Statement};
 ghost use Rattle.jd_java_values.specs.Views.{Gives, in_order, value_view};
@@ -18,20 +18,13 @@ fn boxed(alloc: Global, statement: Stmt) -> Result<Box<Stmt>, NoMemory>
     Ok(Box::new(alloc, statement)?)
 }
 
-/// A statement as what a node stands for.
-pub fn stated(statement: Result<Stmt, NoMemory>) -> Result<Value, NoMemory>
-    ensures { (s : JavaStmt) → Gives java_stmt_view statement s → Gives value_view result (Statement s) }
-{
-    Ok(Value::Statement(statement?))
-}
-
 /// `if (e) s`
-pub fn if_then(alloc: Global, at: u32, condition: Expr, then: Stmt) -> Result<Stmt, NoMemory>
-    ensures { Gives java_stmt_view result (java.If at (java_view condition) (java_stmt_view then)) }
+pub fn if_then(alloc: Global, at: u32, condition: Expr, then: Stmt) -> Result<Value, NoMemory>
+    ensures { Gives value_view result (Statement (java.If at (java_view condition) (java_stmt_view then))) }
 {
     let (condition, then) = both(Ok(condition), boxed(alloc, then))?;
     let form = StmtForm::If(condition, then);
-    Ok(Stmt { at, form })
+    Ok(Value::Statement(Stmt { at, form }))
 }
 
 /// `if (e) s else s`
@@ -41,43 +34,38 @@ pub fn if_else(
     condition: Expr,
     then: Stmt,
     or_else: Stmt,
-) -> Result<Stmt, NoMemory>
-    ensures { Gives java_stmt_view result (java.IfElse at (java_view condition) (java_stmt_view then) (java_stmt_view or_else)) }
+) -> Result<Value, NoMemory>
+    ensures { Gives value_view result (Statement (java.IfElse at (java_view condition) (java_stmt_view then) (java_stmt_view or_else))) }
 {
     let (condition, (then, or_else)) = both(
         Ok(condition),
         both(boxed(alloc, then), boxed(alloc, or_else)),
     )?;
     let form = StmtForm::IfElse(condition, then, or_else);
-    Ok(Stmt { at, form })
+    Ok(Value::Statement(Stmt { at, form }))
 }
 
 /// `while (e) s`
-pub fn while_true(alloc: Global, at: u32, condition: Expr, body: Stmt) -> Result<Stmt, NoMemory>
-    ensures { Gives java_stmt_view result (java.While at None (java_view condition) (java_stmt_view body)) }
+pub fn while_true(alloc: Global, at: u32, condition: Expr, body: Stmt) -> Result<Value, NoMemory>
+    ensures { Gives value_view result (Statement (java.While at None (java_view condition) (java_stmt_view body))) }
 {
     let (condition, body) = both(Ok(condition), boxed(alloc, body))?;
     let form = StmtForm::While(None, condition, body);
-    Ok(Stmt { at, form })
+    Ok(Value::Statement(Stmt { at, form }))
 }
 
 /// `for (..; e; e, ..) s`
 pub fn for_each(
     alloc: Global,
     at: u32,
-    start: ForStart,
-    condition: Option<Expr>,
-    update: Vec<Expr>,
+    head: (ForStart, Option<Expr>, Vec<Expr>),
     body: Stmt,
-) -> Result<Stmt, NoMemory>
-    ensures { Gives java_stmt_view result (java.For at None (for_start_view start) (option_map java_view condition) (in_order java_view update) (java_stmt_view body)) }
+) -> Result<Value, NoMemory>
+    ensures { Gives value_view result (Statement (java.For at None (for_start_view head.0) (option_map java_view head.1) (in_order java_view head.2) (java_stmt_view body))) }
 {
-    let ((start, condition, update), body) = both(
-        Ok((start, condition, update)),
-        boxed(alloc, body),
-    )?;
+    let ((start, condition, update), body) = both(Ok(head), boxed(alloc, body))?;
     let form = StmtForm::For(None, start, condition, update, body);
-    Ok(Stmt { at, form })
+    Ok(Value::Statement(Stmt { at, form }))
 }
 
 /// `l: s`

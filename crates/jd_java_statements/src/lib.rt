@@ -8,7 +8,6 @@ mod forms;
 mod loops;
 mod named;
 mod ordered;
-mod parts;
 mod simple;
 mod variables;
 

@@ -1,24 +1,23 @@
 //! Loops, labels, and the JML before them.
 
-ghost use Rattle.std.specs.Prelude.{◌≡◌, ℕ, IfOk, map};
+ghost use Rattle.std.specs.Prelude.{◌≡◌, ℕ, IfOk, map, option_map};
 ghost use Rattle.jd_java_tokens.specs.Heads as heads;
 ghost use Rattle.jd_java_tokens.specs.Lexemes.{lexeme_view};
 ghost use Rattle.jd_syntax.specs.SpecTrees.{spec_block_view};
 ghost use Rattle.jd_syntax.specs.JavaTrees.{for_start_view, java_stmt_view, java_view};
 ghost use Rattle.jd_syntax.specs.JavaTrees as java;
 ghost use Rattle.jd_java_values.specs.Parts as plain;
-ghost use Rattle.jd_java_values.specs.Views.{Gives, backwards, parts_view, value_view};
+ghost use Rattle.jd_java_values.specs.Views.{Gives, backwards, in_order, parts_view, value_view};
 ghost use Rattle.jd_java_statements.specs.declared.action.Action.{Action};
 ghost use Rattle.jd_java_statements.specs.Meaning as plain_meaning;
 ghost use Rattle.jd_java_statements.specs.Meaning.{meaning};
 
-use crate::forms::{for_each, labelled, stated, while_true};
+use crate::forms::{for_each, labelled, while_true};
 use crate::ordered::ordered_expressions;
-use crate::parts::{discard, first, four, two};
 use jd_base::{NoMemory, copy_bytes};
 use jd_grammar::NodeParts;
 use jd_java_tokens::{Lexeme, place_of, run_of, text_of};
-use jd_java_values::{Value, expression, in_order, some_expression, statement};
+use jd_java_values::{Value, discard, expression, in_order, some_expression, statement, taken};
 use jd_syntax::{Expr, ForStart, SpecBlock, SpecPlace, Stmt, StmtForm};
 use std::alloc::Global;
 
@@ -26,21 +25,17 @@ use std::alloc::Global;
 pub fn while_loop(
     alloc: Global,
     tokens: &[Lexeme<'_>],
-    parts: NodeParts<Value>,
+    parts: &mut NodeParts<Value>,
 ) -> Result<Value, NoMemory>
-    ensures { Gives value_view result (meaning Action.While (map lexeme_view tokens.now) (parts_view parts)) }
+    ensures { Gives value_view result (meaning Action.While (map lexeme_view tokens.now) (parts_view parts.old)) }
 {
-    let (condition, body) = two(parts);
-    stated(while_true(
-        alloc,
-        place_of(0, tokens),
-        expression(condition),
-        statement(body),
-    ))
+    let condition = expression(taken(&mut parts.first));
+    let body = statement(taken(&mut parts.second));
+    while_true(alloc, place_of(0, tokens), condition, body)
 }
 
 /// The start of a `for`: `e, ..`, or nothing; the last comes first.
-#[tactic(auto, using(crate::proofs::Lists::turned))]
+#[tactic(auto, using(jd_java_values::proofs::Backwards::turned))]
 pub fn evaluated(expressions: Vec<Expr>) -> ForStart
     ensures { for_start_view result ≡ java.Evaluated (backwards java_view expressions) }
 {
@@ -61,23 +56,30 @@ fn start(alloc: Global, value: Value) -> ForStart
     }
 }
 
+// What stands in the parentheses of a `for`.
+fn loop_head(alloc: Global, parts: &mut NodeParts<Value>) -> (ForStart, Option<Expr>, Vec<Expr>)
+    ensures start { for_start_view result.0 ≡ plain.start_of (parts_view parts.old).first }
+    ensures condition { option_map java_view result.1 ≡ plain.some_expression (parts_view parts.old).second }
+    ensures update { in_order java_view result.2 ≡ plain.expressions_of (parts_view parts.old).third }
+    ensures rest { parts.new.fourth ≡ parts.old.fourth }
+{
+    let start = start(alloc, taken(&mut parts.first));
+    let condition = some_expression(taken(&mut parts.second));
+    let update = ordered_expressions(alloc, taken(&mut parts.third));
+    (start, condition, update)
+}
+
 /// `for (..; e; e, ..) s`
 pub fn for_loop(
     alloc: Global,
     tokens: &[Lexeme<'_>],
-    parts: NodeParts<Value>,
+    parts: &mut NodeParts<Value>,
 ) -> Result<Value, NoMemory>
-    ensures { Gives value_view result (meaning Action.For (map lexeme_view tokens.now) (parts_view parts)) }
+    ensures { Gives value_view result (meaning Action.For (map lexeme_view tokens.now) (parts_view parts.old)) }
 {
-    let (begin, condition, update, body) = four(parts);
-    stated(for_each(
-        alloc,
-        place_of(0, tokens),
-        start(alloc, begin),
-        some_expression(condition),
-        ordered_expressions(alloc, update),
-        statement(body),
-    ))
+    let head = loop_head(alloc, parts);
+    let body = statement(taken(&mut parts.fourth));
+    for_each(alloc, place_of(0, tokens), head, body)
 }
 
 /// The text of the first token.
@@ -91,15 +93,15 @@ pub fn text_at(alloc: Global, tokens: &[Lexeme<'_>]) -> Result<Vec<u8>, NoMemory
 pub fn label(
     alloc: Global,
     tokens: &[Lexeme<'_>],
-    parts: NodeParts<Value>,
+    parts: &mut NodeParts<Value>,
 ) -> Result<Value, NoMemory>
-    ensures { Gives value_view result (meaning Action.Label (map lexeme_view tokens.now) (parts_view parts)) }
+    ensures { Gives value_view result (meaning Action.Label (map lexeme_view tokens.now) (parts_view parts.old)) }
 {
     labelled(
         alloc,
         place_of(0, tokens),
         text_at(alloc, tokens),
-        statement(first(parts)),
+        statement(taken(&mut parts.first)),
     )
 }
 
@@ -151,10 +153,10 @@ fn preceded(block: SpecBlock, statement: Stmt) -> Stmt
 pub fn annotated(
     alloc: Global,
     tokens: &[Lexeme<'_>],
-    parts: NodeParts<Value>,
+    parts: &mut NodeParts<Value>,
 ) -> Result<Value, NoMemory>
-    ensures { Gives value_view result (meaning Action.Annotated (map lexeme_view tokens.now) (parts_view parts)) }
+    ensures { Gives value_view result (meaning Action.Annotated (map lexeme_view tokens.now) (parts_view parts.old)) }
 {
     let block = loop_block(alloc, tokens);
-    Ok(Value::Statement(preceded(block, statement(first(parts)))))
+    Ok(Value::Statement(preceded(block, statement(taken(&mut parts.first)))))
 }

@@ -15,13 +15,12 @@ ghost use Rattle.jd_java_statements.specs.Meaning.{meaning};
 
 use crate::forms::{labelled, local};
 use crate::loops::{evaluated, text_at};
-use crate::parts::{discard, first, two};
 use crate::variables::{declared, ordered_variables};
 use jd_base::{NoMemory, both};
 use jd_grammar::NodeParts;
 use jd_java_expressions::applied_name;
 use jd_java_tokens::{Lexeme, place_of, text_of};
-use jd_java_values::{Suffix, Value, class_at, expressions, with};
+use jd_java_values::{Suffix, Value, class_at, discard, expressions, taken, with};
 use jd_syntax::{Expr, Stmt, StmtForm};
 use std::alloc::Global;
 
@@ -64,7 +63,12 @@ fn evaluating(at: u32, effects: (Result<Expr, NoMemory>, Vec<Expr>)) -> Result<V
     Ok(Value::Statement(Stmt { at, form }))
 }
 
-fn named_statement(alloc: Global, tokens: &[Lexeme<'_>], behind: Value) -> Result<Value, NoMemory>
+/// A statement that begins with a name: labelled, of variables of a class, or an expression.
+pub fn named_statement(
+    alloc: Global,
+    tokens: &[Lexeme<'_>],
+    behind: Value,
+) -> Result<Value, NoMemory>
     ensures { Gives value_view result (values.Statement (plain_meaning.named_statement (heads.place_of 0 (map lexeme_view tokens.now)) (heads.text_of (map lexeme_view tokens.now)) (value_view behind))) }
 {
     let at = place_of(0, tokens);
@@ -79,18 +83,7 @@ fn named_statement(alloc: Global, tokens: &[Lexeme<'_>], behind: Value) -> Resul
     }
 }
 
-/// A statement that begins with a name: labelled, of variables of a class, or an expression.
-pub fn name_statement(
-    alloc: Global,
-    tokens: &[Lexeme<'_>],
-    parts: NodeParts<Value>,
-) -> Result<Value, NoMemory>
-    ensures { Gives value_view result (meaning Action.Named (map lexeme_view tokens.now) (parts_view parts)) }
-{
-    named_statement(alloc, tokens, first(parts))
-}
-
-#[tactic(auto, using(crate::proofs::Lists::one_more))]
+#[tactic(auto, using(jd_java_values::proofs::Backwards::one_more))]
 fn started(effects: (Result<Expr, NoMemory>, Vec<Expr>)) -> Result<Value, NoMemory>
     ensures { (e : JavaExpr) → Gives java_view effects.0 e → Gives value_view result (values.LoopStart (java.Evaluated (e ∷ backwards java_view effects.1))) }
 {
@@ -100,7 +93,8 @@ fn started(effects: (Result<Expr, NoMemory>, Vec<Expr>)) -> Result<Value, NoMemo
     Ok(Value::LoopStart(evaluated(expressions)))
 }
 
-fn named_start(alloc: Global, tokens: &[Lexeme<'_>], behind: Value) -> Result<Value, NoMemory>
+/// The start of a `for` that begins with a name: variables of a class, or expressions.
+pub fn named_start(alloc: Global, tokens: &[Lexeme<'_>], behind: Value) -> Result<Value, NoMemory>
     ensures { Gives value_view result (values.LoopStart (plain_meaning.named_start (heads.place_of 0 (map lexeme_view tokens.now)) (heads.text_of (map lexeme_view tokens.now)) (value_view behind))) }
 {
     match behind {
@@ -112,17 +106,6 @@ fn named_start(alloc: Global, tokens: &[Lexeme<'_>], behind: Value) -> Result<Va
     }
 }
 
-/// The start of a `for` that begins with a name: variables of a class, or expressions.
-pub fn name_start(
-    alloc: Global,
-    tokens: &[Lexeme<'_>],
-    parts: NodeParts<Value>,
-) -> Result<Value, NoMemory>
-    ensures { Gives value_view result (meaning Action.NamedStart (map lexeme_view tokens.now) (parts_view parts)) }
-{
-    named_start(alloc, tokens, first(parts))
-}
-
 fn with_effects(alloc: Global, behind: Value, others: Vec<Expr>) -> Value
     ensures { value_view result ≡ plain_meaning.with_effects (value_view behind) (backwards java_view others) }
 {
@@ -132,9 +115,9 @@ fn with_effects(alloc: Global, behind: Value, others: Vec<Expr>) -> Value
 }
 
 /// What makes a name a statement, and further expressions.
-pub fn name_effects(alloc: Global, parts: NodeParts<Value>) -> Result<Value, NoMemory>
-    ensures { Gives value_view result (meaning Action.NameEffects [] (parts_view parts)) }
+pub fn name_effects(alloc: Global, parts: &mut NodeParts<Value>) -> Result<Value, NoMemory>
+    ensures { Gives value_view result (meaning Action.NameEffects [] (parts_view parts.old)) }
 {
-    let (behind, others) = two(parts);
-    Ok(with_effects(alloc, behind, expressions(alloc, others)))
+    let others = expressions(alloc, taken(&mut parts.second));
+    Ok(with_effects(alloc, taken(&mut parts.first), others))
 }

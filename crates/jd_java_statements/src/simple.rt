@@ -1,22 +1,24 @@
 //! Statements without statements in them, and lists of statements.
 
 ghost use Rattle.std.specs.Prelude.{◌≡◌, List, [], ◌∷◌, map};
+ghost use Rattle.jd_java_tokens.specs.Heads as heads;
 ghost use Rattle.jd_java_tokens.specs.Lexemes.{lexeme_view};
 ghost use Rattle.jd_syntax.specs.JavaTrees.{JavaStmt, java_stmt_view, java_view};
 ghost use Rattle.jd_syntax.specs.JavaTrees as java;
 ghost use Rattle.jd_java_expressions.specs.Applying.{at_of};
-ghost use Rattle.jd_java_values.specs.Values.{Statements};
+ghost use Rattle.jd_java_values.specs.Values.{Statement, Statements};
 ghost use Rattle.jd_java_values.specs.Parts as plain;
 ghost use Rattle.jd_java_values.specs.Views.{Gives, backwards, parts_view, value_view};
 ghost use Rattle.jd_java_statements.specs.declared.action.Action.{Action};
 ghost use Rattle.jd_java_statements.specs.Meaning.{meaning};
 
 use crate::ordered::{ordered_expressions, ordered_statements};
-use crate::parts::{first, none, two};
 use jd_base::NoMemory;
 use jd_grammar::NodeParts;
 use jd_java_tokens::{Lexeme, place_of};
-use jd_java_values::{Value, expression, some_expression, some_name, statement, statements, with};
+use jd_java_values::{
+    Value, expression, some_expression, some_name, statement, statements, taken, with,
+};
 use jd_syntax::{Expr, Stmt, StmtForm};
 use std::alloc::Global;
 
@@ -24,25 +26,22 @@ use std::alloc::Global;
 pub fn block(
     alloc: Global,
     tokens: &[Lexeme<'_>],
-    parts: NodeParts<Value>,
+    parts: &mut NodeParts<Value>,
 ) -> Result<Value, NoMemory>
-    ensures { Gives value_view result (meaning Action.Block (map lexeme_view tokens.now) (parts_view parts)) }
+    ensures { Gives value_view result (meaning Action.Block (map lexeme_view tokens.now) (parts_view parts.old)) }
 {
     let at = place_of(0, tokens);
-    let form = StmtForm::Block(ordered_statements(alloc, first(parts)));
+    let form = StmtForm::Block(ordered_statements(alloc, taken(&mut parts.first)));
     Ok(Value::Statement(Stmt { at, form }))
 }
 
 /// `;`
-pub fn empty(tokens: &[Lexeme<'_>], parts: NodeParts<Value>) -> Result<Value, NoMemory>
-    ensures { Gives value_view result (meaning Action.Empty (map lexeme_view tokens.now) (parts_view parts)) }
+pub fn empty(tokens: &[Lexeme<'_>]) -> Value
+    ensures { value_view result ≡ Statement (java.Empty (heads.place_of 0 (map lexeme_view tokens.now))) }
 {
-    none(parts);
     let at = place_of(0, tokens);
-    Ok(Value::Statement(Stmt {
-        at,
-        form: StmtForm::Empty,
-    }))
+    let form = StmtForm::Empty;
+    Value::Statement(Stmt { at, form })
 }
 
 fn place(expression: &Expr) -> u32
@@ -60,45 +59,45 @@ fn evaluated(expression: Expr) -> Stmt
 }
 
 /// `e;`
-pub fn evaluate(parts: NodeParts<Value>) -> Result<Value, NoMemory>
-    ensures { Gives value_view result (meaning Action.Evaluate [] (parts_view parts)) }
+pub fn evaluate(parts: &mut NodeParts<Value>) -> Result<Value, NoMemory>
+    ensures { Gives value_view result (meaning Action.Evaluate [] (parts_view parts.old)) }
 {
-    Ok(Value::Statement(evaluated(expression(first(parts)))))
+    Ok(Value::Statement(evaluated(expression(taken(&mut parts.first)))))
 }
 
 /// `break;` or `break l;`
-pub fn break_off(tokens: &[Lexeme<'_>], parts: NodeParts<Value>) -> Result<Value, NoMemory>
-    ensures { Gives value_view result (meaning Action.Break (map lexeme_view tokens.now) (parts_view parts)) }
+pub fn break_off(tokens: &[Lexeme<'_>], parts: &mut NodeParts<Value>) -> Result<Value, NoMemory>
+    ensures { Gives value_view result (meaning Action.Break (map lexeme_view tokens.now) (parts_view parts.old)) }
 {
     let at = place_of(0, tokens);
-    let form = StmtForm::Break(some_name(first(parts)));
+    let form = StmtForm::Break(some_name(taken(&mut parts.first)));
     Ok(Value::Statement(Stmt { at, form }))
 }
 
 /// `continue;` or `continue l;`
-pub fn go_on(tokens: &[Lexeme<'_>], parts: NodeParts<Value>) -> Result<Value, NoMemory>
-    ensures { Gives value_view result (meaning Action.Continue (map lexeme_view tokens.now) (parts_view parts)) }
+pub fn go_on(tokens: &[Lexeme<'_>], parts: &mut NodeParts<Value>) -> Result<Value, NoMemory>
+    ensures { Gives value_view result (meaning Action.Continue (map lexeme_view tokens.now) (parts_view parts.old)) }
 {
     let at = place_of(0, tokens);
-    let form = StmtForm::Continue(some_name(first(parts)));
+    let form = StmtForm::Continue(some_name(taken(&mut parts.first)));
     Ok(Value::Statement(Stmt { at, form }))
 }
 
 /// `return;` or `return e;`
-pub fn give_back(tokens: &[Lexeme<'_>], parts: NodeParts<Value>) -> Result<Value, NoMemory>
-    ensures { Gives value_view result (meaning Action.Return (map lexeme_view tokens.now) (parts_view parts)) }
+pub fn give_back(tokens: &[Lexeme<'_>], parts: &mut NodeParts<Value>) -> Result<Value, NoMemory>
+    ensures { Gives value_view result (meaning Action.Return (map lexeme_view tokens.now) (parts_view parts.old)) }
 {
     let at = place_of(0, tokens);
-    let form = StmtForm::Return(some_expression(first(parts)));
+    let form = StmtForm::Return(some_expression(taken(&mut parts.first)));
     Ok(Value::Statement(Stmt { at, form }))
 }
 
 /// `throw e;`
-pub fn throw(tokens: &[Lexeme<'_>], parts: NodeParts<Value>) -> Result<Value, NoMemory>
-    ensures { Gives value_view result (meaning Action.Throw (map lexeme_view tokens.now) (parts_view parts)) }
+pub fn throw(tokens: &[Lexeme<'_>], parts: &mut NodeParts<Value>) -> Result<Value, NoMemory>
+    ensures { Gives value_view result (meaning Action.Throw (map lexeme_view tokens.now) (parts_view parts.old)) }
 {
     let at = place_of(0, tokens);
-    let form = StmtForm::Throw(expression(first(parts)));
+    let form = StmtForm::Throw(expression(taken(&mut parts.first)));
     Ok(Value::Statement(Stmt { at, form }))
 }
 
@@ -108,27 +107,19 @@ fn listed(statements: Result<Vec<Stmt>, NoMemory>) -> Result<Value, NoMemory>
     Ok(Value::Statements(statements?))
 }
 
-#[tactic(auto, using(crate::proofs::Lists::one_more))]
+#[tactic(auto, using(jd_java_values::proofs::Backwards::one_more))]
 fn preceded(alloc: Global, statement: Stmt, behind: Value) -> Result<Vec<Stmt>, NoMemory>
     ensures { Gives (backwards java_stmt_view) result (java_stmt_view statement ∷ plain.statements_of (value_view behind)) }
 {
     with(statements(alloc, behind), statement)
 }
 
-/// No statements.
-pub fn no_statements(alloc: Global, parts: NodeParts<Value>) -> Result<Value, NoMemory>
-    ensures { Gives value_view result (meaning Action.NoStatements [] (parts_view parts)) }
-{
-    none(parts);
-    Ok(Value::Statements(Vec::new(alloc)))
-}
-
 /// A statement, and those behind it.
-pub fn several_statements(alloc: Global, parts: NodeParts<Value>) -> Result<Value, NoMemory>
-    ensures { Gives value_view result (meaning Action.Statements [] (parts_view parts)) }
+pub fn several_statements(alloc: Global, parts: &mut NodeParts<Value>) -> Result<Value, NoMemory>
+    ensures { Gives value_view result (meaning Action.Statements [] (parts_view parts.old)) }
 {
-    let (head, behind) = two(parts);
-    listed(preceded(alloc, statement(head), behind))
+    let head = statement(taken(&mut parts.first));
+    listed(preceded(alloc, head, taken(&mut parts.second)))
 }
 
 fn parent_call(alloc: Global, at: u32, arguments: Value) -> Stmt
@@ -142,14 +133,10 @@ fn parent_call(alloc: Global, at: u32, arguments: Value) -> Stmt
 pub fn after_super(
     alloc: Global,
     tokens: &[Lexeme<'_>],
-    parts: NodeParts<Value>,
+    parts: &mut NodeParts<Value>,
 ) -> Result<Value, NoMemory>
-    ensures { Gives value_view result (meaning Action.Super (map lexeme_view tokens.now) (parts_view parts)) }
+    ensures { Gives value_view result (meaning Action.Super (map lexeme_view tokens.now) (parts_view parts.old)) }
 {
-    let (arguments, behind) = two(parts);
-    listed(preceded(
-        alloc,
-        parent_call(alloc, place_of(0, tokens), arguments),
-        behind,
-    ))
+    let call = parent_call(alloc, place_of(0, tokens), taken(&mut parts.first));
+    listed(preceded(alloc, call, taken(&mut parts.second)))
 }

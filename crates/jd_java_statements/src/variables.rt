@@ -14,12 +14,12 @@ ghost use Rattle.jd_java_statements.specs.Meaning as plain_meaning;
 ghost use Rattle.jd_java_statements.specs.Meaning.{meaning};
 
 use crate::forms::local;
-use crate::parts::{none, one_and_rest, three};
 use jd_base::{NoMemory, both};
 use jd_grammar::NodeParts;
 use jd_java_tokens::{Lexeme, place_of};
 use jd_java_values::{
-    Value, in_order, int_type, is_dimension, name, some_expression, type_at, typed, variables, with,
+    Value, in_order, int_type, is_dimension, name, some_expression, taken, type_at, typed,
+    variables, with,
 };
 use jd_syntax::{Declarator, Expr, ForStart, Identifier, JavaType, WrittenType};
 use std::alloc::Global;
@@ -31,27 +31,54 @@ fn declarator(name: Identifier, value: Option<Expr>) -> Declarator
 }
 
 // A variable's name, its first value, and other variables: of all the last comes first.
-#[tactic(auto, using(crate::proofs::Lists::one_more))]
-fn declarators(alloc: Global, parts: (Value, Value, Value)) -> Result<Vec<Declarator>, NoMemory>
-    ensures { Gives (backwards declarator_view) result (plain_meaning.variables (value_view parts.0) (value_view parts.1) (value_view parts.2)) }
+#[tactic(auto, using(jd_java_values::proofs::Backwards::one_more))]
+fn declarators(
+    alloc: Global,
+    variable: &mut Value,
+    value: &mut Value,
+    more: &mut Value,
+) -> Result<Vec<Declarator>, NoMemory>
+    ensures { Gives (backwards declarator_view) result (plain_meaning.variables (value_view variable.old) (value_view value.old) (value_view more.old)) }
 {
-    let (variable, value, more) = parts;
-    let declarator = declarator(name(alloc, variable), some_expression(value));
-    with(variables(alloc, more), declarator)
+    let name = name(alloc, taken(variable));
+    let declarator = declarator(name, some_expression(taken(value)));
+    with(variables(alloc, taken(more)), declarator)
 }
 
 /// The variables in the order of the text.
-#[tactic(auto, using(crate::proofs::Lists::turned))]
+#[tactic(auto, using(jd_java_values::proofs::Backwards::turned))]
 pub fn ordered_variables(variables: Vec<Declarator>) -> Vec<Declarator>
     ensures { in_order declarator_view result ≡ backwards declarator_view variables }
 {
     in_order(variables)
 }
 
-fn ordered(alloc: Global, parts: (Value, Value, Value)) -> Result<Vec<Declarator>, NoMemory>
-    ensures { Gives (in_order declarator_view) result (plain_meaning.variables (value_view parts.0) (value_view parts.1) (value_view parts.2)) }
+// The variables of the first three parts, the last first.
+fn first_three(alloc: Global, parts: &mut NodeParts<Value>) -> Result<Vec<Declarator>, NoMemory>
+    ensures { let p = parts_view parts.old in Gives (backwards declarator_view) result (plain_meaning.variables p.first p.second p.third) }
 {
-    Ok(ordered_variables(declarators(alloc, parts)?))
+    declarators(alloc, &mut parts.first, &mut parts.second, &mut parts.third)
+}
+
+// The variables of the last three parts, in the order of the text.
+fn last_three(alloc: Global, parts: &mut NodeParts<Value>) -> Result<Vec<Declarator>, NoMemory>
+    ensures variables { let p = parts_view parts.old in Gives (in_order declarator_view) result (plain_meaning.variables p.second p.third p.fourth) }
+    ensures rest { parts.new.first ≡ parts.old.first }
+{
+    let variables = declarators(
+        alloc,
+        &mut parts.second,
+        &mut parts.third,
+        &mut parts.fourth,
+    )?;
+    Ok(ordered_variables(variables))
+}
+
+// Those of the first three parts, in the order of the text.
+fn ordered_three(alloc: Global, parts: &mut NodeParts<Value>) -> Result<Vec<Declarator>, NoMemory>
+    ensures { let p = parts_view parts.old in Gives (in_order declarator_view) result (plain_meaning.variables p.first p.second p.third) }
+{
+    Ok(ordered_variables(first_three(alloc, parts)?))
 }
 
 fn int_at(tokens: &[Lexeme<'_>], dimension: Value) -> WrittenType
@@ -64,46 +91,40 @@ fn int_at(tokens: &[Lexeme<'_>], dimension: Value) -> WrittenType
 pub fn final_local(
     alloc: Global,
     tokens: &[Lexeme<'_>],
-    parts: NodeParts<Value>,
+    parts: &mut NodeParts<Value>,
 ) -> Result<Value, NoMemory>
-    ensures { Gives value_view result (meaning Action.FinalLocal (map lexeme_view tokens.now) (parts_view parts)) }
+    ensures { Gives value_view result (meaning Action.FinalLocal (map lexeme_view tokens.now) (parts_view parts.old)) }
 {
-    let (written, behind) = one_and_rest(parts);
-    local(
-        place_of(0, tokens),
-        Ok(typed(written)),
-        ordered(alloc, behind),
-    )
+    let variables = last_three(alloc, parts);
+    let written = typed(taken(&mut parts.first));
+    local(place_of(0, tokens), Ok(written), variables)
 }
 
 /// `int x = e, ..;` or `int[] x = e, ..;`
 pub fn int_local(
     alloc: Global,
     tokens: &[Lexeme<'_>],
-    parts: NodeParts<Value>,
+    parts: &mut NodeParts<Value>,
 ) -> Result<Value, NoMemory>
-    ensures { Gives value_view result (meaning Action.IntLocal (map lexeme_view tokens.now) (parts_view parts)) }
+    ensures { Gives value_view result (meaning Action.IntLocal (map lexeme_view tokens.now) (parts_view parts.old)) }
 {
-    let (dimension, behind) = one_and_rest(parts);
-    local(
-        place_of(0, tokens),
-        Ok(int_at(tokens, dimension)),
-        ordered(alloc, behind),
-    )
+    let variables = last_three(alloc, parts);
+    let written = int_at(tokens, taken(&mut parts.first));
+    local(place_of(0, tokens), Ok(written), variables)
 }
 
 /// `boolean x = e, ..;`
 pub fn boolean_local(
     alloc: Global,
     tokens: &[Lexeme<'_>],
-    parts: NodeParts<Value>,
+    parts: &mut NodeParts<Value>,
 ) -> Result<Value, NoMemory>
-    ensures { Gives value_view result (meaning Action.BooleanLocal (map lexeme_view tokens.now) (parts_view parts)) }
+    ensures { Gives value_view result (meaning Action.BooleanLocal (map lexeme_view tokens.now) (parts_view parts.old)) }
 {
     local(
         place_of(0, tokens),
         Ok(type_at(tokens, JavaType::Boolean)),
-        ordered(alloc, three(parts)),
+        ordered_three(alloc, parts),
     )
 }
 
@@ -114,18 +135,10 @@ fn varied(variables: Result<Vec<Declarator>, NoMemory>) -> Result<Value, NoMemor
 }
 
 /// A variable, its first value if it has one, and others.
-pub fn several_variables(alloc: Global, parts: NodeParts<Value>) -> Result<Value, NoMemory>
-    ensures { Gives value_view result (meaning Action.Variables [] (parts_view parts)) }
+pub fn several_variables(alloc: Global, parts: &mut NodeParts<Value>) -> Result<Value, NoMemory>
+    ensures { Gives value_view result (meaning Action.Variables [] (parts_view parts.old)) }
 {
-    varied(declarators(alloc, three(parts)))
-}
-
-/// No variables.
-pub fn no_variables(alloc: Global, parts: NodeParts<Value>) -> Result<Value, NoMemory>
-    ensures { Gives value_view result (meaning Action.NoVariables [] (parts_view parts)) }
-{
-    none(parts);
-    Ok(Value::Variables(Vec::new(alloc)))
+    varied(first_three(alloc, parts))
 }
 
 /// The start of a `for`: `T x = e, ..`
@@ -143,24 +156,25 @@ pub fn declared(
 pub fn int_start(
     alloc: Global,
     tokens: &[Lexeme<'_>],
-    parts: NodeParts<Value>,
+    parts: &mut NodeParts<Value>,
 ) -> Result<Value, NoMemory>
-    ensures { Gives value_view result (meaning Action.IntStart (map lexeme_view tokens.now) (parts_view parts)) }
+    ensures { Gives value_view result (meaning Action.IntStart (map lexeme_view tokens.now) (parts_view parts.old)) }
 {
-    let (dimension, behind) = one_and_rest(parts);
-    declared(Ok(int_at(tokens, dimension)), ordered(alloc, behind))
+    let variables = last_three(alloc, parts);
+    let written = int_at(tokens, taken(&mut parts.first));
+    declared(Ok(written), variables)
 }
 
 /// The start of a `for`: `boolean x = e, ..`.
 pub fn boolean_start(
     alloc: Global,
     tokens: &[Lexeme<'_>],
-    parts: NodeParts<Value>,
+    parts: &mut NodeParts<Value>,
 ) -> Result<Value, NoMemory>
-    ensures { Gives value_view result (meaning Action.BooleanStart (map lexeme_view tokens.now) (parts_view parts)) }
+    ensures { Gives value_view result (meaning Action.BooleanStart (map lexeme_view tokens.now) (parts_view parts.old)) }
 {
     declared(
         Ok(type_at(tokens, JavaType::Boolean)),
-        ordered(alloc, three(parts)),
+        ordered_three(alloc, parts),
     )
 }

@@ -1,7 +1,7 @@
 //! The tree of a whole file.
 
-ghost use Rattle.std.specs.Prelude.{◌≡◌, ◌≤◌, length, map};
-ghost use Rattle.jd_grammar.specs.Nodes.{IsRead, IsReadAs, Rooted, all_of, parts_list};
+ghost use Rattle.std.specs.Prelude.{◌≡◌, ◌∷◌, OnOk, drop, length, map, reverse, take};
+ghost use Rattle.jd_grammar.specs.Nodes.{IsRead, IsReadAs, Rooted, all_of};
 ghost use Rattle.jd_java_attributes.specs.Judging.{names_of};
 ghost use Rattle.jd_java_tokens.specs.Lexemes.{lexeme_view};
 ghost use Rattle.jd_java_values.specs.Values.{Nothing};
@@ -10,8 +10,9 @@ ghost use Rattle.jd_java_trees.specs.Meaning.{meaning_by, unit_by, unit_of, valu
 ghost use Rattle.jd_syntax.specs.JavaTrees.{unit_view};
 
 use crate::actions::{Action, action_at};
+use crate::short::{drop_second, is_blank, keeps_first};
 use jd_base::NoMemory;
-use jd_grammar::{NodeParts, Nodes, Parts, filled, value_of};
+use jd_grammar::{NodeParts, Nodes, put, take_parts, value_of};
 use jd_java_attributes::names_of;
 use jd_java_expressions::act as act_on_expression;
 use jd_java_members::act as act_on_member;
@@ -36,15 +37,29 @@ fn act(
     alloc: Global,
     action: Action,
     tokens: &[Lexeme<'_>],
-    parts: NodeParts<Value>,
+    parts: &mut NodeParts<Value>,
 ) -> Result<Value, NoMemory>
-    ensures { Gives value_view result (meaning_by action (map lexeme_view tokens.now) (parts_view parts)) }
+    ensures { Gives value_view result (meaning_by action (map lexeme_view tokens.now) (parts_view parts.old)) }
 {
     match action {
         Action::Expression(action) => act_on_expression(alloc, action, tokens, parts),
         Action::Statement(action) => act_on_statement(alloc, action, tokens, parts),
         Action::Member(action) => act_on_member(alloc, action, tokens, parts),
     }
+}
+
+// What a node stands for, whose parts are taken off the stack.
+fn made(
+    alloc: Global,
+    production: u16,
+    tokens: &[Lexeme<'_>],
+    stack: &mut Vec<Value>,
+) -> Result<Value, NoMemory>
+    ensures value { Gives value_view result (value_of_node production (map lexeme_view tokens.now) (map value_view (take (names_of production) (reverse stack.old.items)))) }
+    ensures rest { reverse stack.new.items ≡ drop (names_of production) (reverse stack.old.items) }
+{
+    let mut parts = take_parts(stack, names_of(production), nothing());
+    act(alloc, action_at(production), tokens, &mut parts)
 }
 
 /// The nodes of Java's files, which stand for the parts of trees.
@@ -56,28 +71,23 @@ impl<'a> Nodes<Lexeme<'a>, Value> for TreeNodes {
 
     ghost stands = { λ _ p ts us v. value_view v ≡ value_of_node p (map lexeme_view ts) (map value_view us) };
 
-    fn names_of(&self, production: u16) -> u8
-        ensures is { result ≡ names_of production }
-        ensures few { result ≤ 4 }
-    {
-        names_of(production)
-    }
-
-    fn make(
+    fn reduce(
         &self,
         alloc: Global,
         production: u16,
         tokens: &[Lexeme<'a>],
-        parts: Parts<Value>,
-    ) -> Result<Value, NoMemory>
-        ensures { Gives value_view result (value_of_node production (map lexeme_view tokens.now) (map value_view (parts_list parts))) }
+        stack: &mut Vec<Value>,
+    ) -> Result<(), NoMemory>
+        ensures { OnOk result ((v : Value) × (value_view v ≡ value_of_node production (map lexeme_view tokens.now) (map value_view (take (names_of production) (reverse stack.old.items)))) × (reverse stack.new.items ≡ v ∷ drop (names_of production) (reverse stack.old.items))) }
     {
-        act(
-            alloc,
-            action_at(production),
-            tokens,
-            filled(nothing(), parts),
-        )
+        if is_blank(production) {
+            return put(stack, Value::Suffixes(Vec::new(alloc)));
+        }
+        if keeps_first(production, &*stack) {
+            return drop_second(stack);
+        }
+        let value = made(alloc, production, tokens, stack)?;
+        put(stack, value)
     }
 }
 

@@ -1,8 +1,9 @@
-//! Lists whose last part comes first.
+//! Lists of any items, as those whose last part comes first.
 
-ghost use Rattle.std.specs.Prelude.{◌≡◌, ◌++◌, ◌∷◌, [], IfOk, reverse};
+ghost use Rattle.std.specs.Prelude.{◌≡◌, ◌++◌, ◌∷◌, [], IfOk, MatchOption, OnOk, reverse};
 
-use jd_base::NoMemory;
+use jd_base::{NoMemory, both};
+use std::alloc::Global;
 
 /// The list with one more item.
 pub fn with<T: Drop>(items: Vec<T>, item: T) -> Result<Vec<T>, NoMemory>
@@ -34,4 +35,45 @@ pub fn in_order<T: Drop>(items: Vec<T>) -> Vec<T>
     let mut items = items;
     items.reverse();
     items
+}
+
+/// The items of three lists whose last part comes first.
+pub fn all_of<T: Drop>(first: Vec<T>, second: Vec<T>, third: Vec<T>) -> Result<Vec<T>, NoMemory>
+    ensures { IfOk result (λ v. v.items ≡ (third.items ++ second.items) ++ first.items) }
+{
+    appended(appended(third, second)?, first)
+}
+
+/// The list of one item.
+pub fn alone<T: Drop>(alloc: Global, item: T) -> Result<Vec<T>, NoMemory>
+    ensures { IfOk result (λ v. v.items ≡ item ∷ []) }
+{
+    with(Vec::new(alloc), item)
+}
+
+/// Puts an item before the others.
+pub fn put_first<T: Drop>(items: &mut Vec<T>, item: T) -> Result<(), NoMemory>
+    ensures { OnOk result (items.new.items ≡ item ∷ items.old.items) }
+{
+    match items.insert(0, item) {
+        Ok(()) => Ok(()),
+        Err(_) => Err(NoMemory),
+    }
+}
+
+/// The list without its last item, and that.
+pub fn last_apart<T: Drop>(items: Vec<T>) -> (Vec<T>, Option<T>)
+    ensures { MatchOption result.1 ((items.items ≡ []) × (result.0.items ≡ [])) (λ x. items.items ≡ result.0.items ++ x ∷ []) }
+{
+    let mut items = items;
+    let last = items.pop();
+    (items, last)
+}
+
+/// The list with one more item, if that has been made.
+pub fn ended<T: Drop>(items: Vec<T>, item: Result<T, NoMemory>) -> Result<Vec<T>, NoMemory>
+    ensures { IfOk result (λ v. (x : T) × (item ≡ Ok x) × (v.items ≡ items.items ++ x ∷ [])) }
+{
+    let (items, item) = both(Ok(items), item)?;
+    with(items, item)
 }

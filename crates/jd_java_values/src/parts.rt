@@ -1,4 +1,4 @@
-//! What a value is as a part of a node; something else where it is none of the kind that the node has there.
+//! What a value is as a part of a node, taken out of its place; something else where it is none of the kind that the node has there.
 
 ghost use Rattle.std.specs.Prelude.{◌≡◌, option_map};
 ghost use Rattle.jd_syntax.specs.JavaTypes.{identifier_view, written_view};
@@ -14,9 +14,17 @@ use jd_syntax::{
     SpecBlock, Stmt, StmtForm, WrittenType,
 };
 use std::alloc::Global;
+use std::mem;
 
-// Lets a value go.
-fn discard<T: Drop>(_value: T) {}
+/// Lets a value go.
+pub fn discard<T: Drop>(_value: T) {}
+
+/// The value, in whose place nothing is left.
+pub fn taken(value: &mut Value) -> Value
+    ensures { result ≡ value.old }
+{
+    mem::replace(value, Value::Nothing)
+}
 
 /// The expression that it is.
 pub fn expression(value: Value) -> Expr

@@ -2,6 +2,8 @@
 use Rattle.std.proofs.Common.{◌≡◌, List, [], ◌∷◌, ◌++◌, map, refl, sym, ap, ◌∙◌}
 use Rattle.std.specs.Prelude.{reverse}
 use Rattle.std.proofs.lemmas.List.{map-append, reverse-append}
+use Rattle.std.specs.declared.vec.Vec.{Vec}
+use Rattle.std.specs.declared.alloc.Global.{Global}
 
 pub last_first : {A B : Type 0} (f : A → B) (xs : List A) (x : A) → reverse (map f (xs ++ x ∷ [])) ≡ f x ∷ reverse (map f xs)
 last_first f xs x = ap reverse (map-append f xs (x ∷ [])) ∙ reverse-append (map f xs) (f x ∷ [])
@@ -17,3 +19,16 @@ map_reverse f [] = refl
 map_reverse f (x ∷ xs) =
     ap (map f) (reverse-append (x ∷ []) xs) ∙ (map-append f (reverse xs) (x ∷ [])
     ∙ (ap (λ ys. ys ++ f x ∷ []) (map_reverse f xs) ∙ sym (reverse-append (f x ∷ []) (map f xs))))
+
+-- ---- of vectors
+
+-- one more at the end is one more at the head
+pub one_more : {A B : Type 0} (f : A → B) (u t : Vec A Global) (x : A) → u.items ≡ t.items ++ x ∷ [] → reverse (map f u.items) ≡ f x ∷ reverse (map f t.items)
+one_more f u t x e = ap (λ xs. reverse (map f xs)) e ∙ last_first f t.items x
+
+-- those at the end come first
+pub others_first : {A B : Type 0} (f : A → B) (u s t : Vec A Global) → u.items ≡ s.items ++ t.items → reverse (map f u.items) ≡ reverse (map f t.items) ++ reverse (map f s.items)
+others_first f u s t e = ap (λ xs. reverse (map f xs)) e ∙ reversed_append f s.items t.items
+
+pub turned : {A B : Type 0} (f : A → B) (u t : Vec A Global) → u.items ≡ reverse t.items → map f u.items ≡ reverse (map f t.items)
+turned f u t e = ap (map f) e ∙ map_reverse f t.items

@@ -1,0 +1,12 @@
+use Rattle.std.proofs.Common.{map, refl, ap, ◌∷◌, ◌∙◌}
+use Rattle.std.specs.Prelude.{reverse}
+use Rattle.std.proofs.lemmas.Result.{on_ok_weaker}
+use Rattle.jd_java_tokens.specs.Lexemes.{lexeme_view}
+use Rattle.jd_java_attributes.proofs.Views.{drop_as, heading_of_parts}
+use Rattle.jd_java_attributes.proofs.nodes.HeadingNodesNodesLexemeTold.reduce.Goals as goal
+
+pub returns : goal.returns
+returns c =
+    let stack = reverse c.args.stack.now.items in
+    let is = heading_of_parts c.args.production (map lexeme_view c.args.tokens.now) stack c.names_of.result c.row-row.result _ c.take_parts-parts.result c.in_ok-told.told refl c.row-row.ensures c.names_of.ensures.is c.take_parts-parts.ensures.parts c.in_ok-told.ensures in
+    on_ok_weaker c.put-2.result (λ e. (c.in_ok-told.told, is, e ∙ ap (λ us. c.in_ok-told.told ∷ us) (drop_as c.args.production stack c.names_of.result _ c.names_of.ensures.is c.take_parts-parts.ensures.rest))) c.put-2.ensures
