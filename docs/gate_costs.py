@@ -3,8 +3,8 @@
 
 usage: gate_costs.py [WORD..]
 
-Run it at the top of a clone, on a machine that does nothing else. The words are those of `rt ci`, `--anew` where there
-are none. Ten times a second it reads what the system counts for each process of the run; what a process takes behind the
+Run it at the top of a clone, on a machine that does nothing else. The words are those of `rt ci`: `--anew` with a kit
+that keeps what an earlier run passed, none with another. Ten times a second it reads what the system counts for each process of the run; what a process takes behind the
 last look at it is left out, so the sum stands beside what the system counts for all of them together.
 """
 import collections
@@ -109,8 +109,7 @@ def longest_chain(table):
 
 
 def main():
-    words = sys.argv[1:] or ["--anew"]
-    table, other, clock, status = watch(words)
+    table, other, clock, status = watch(sys.argv[1:])
     used = resource.getrusage(resource.RUSAGE_CHILDREN)
     counted = used.ru_utime + used.ru_stime
     sums = collections.Counter()

@@ -8,5 +8,5 @@ use Rattle.jd_jml_attributes.proofs.nodes.JmlNodesNodesLexemeForm.reduce.Goals a
 pub returns : goal.returns
 returns c =
     let stack = reverse c.args.stack.now.items in
-    let is = form_of_parts c.args.production (map lexeme_view c.args.tokens.now) stack c.names_of.result c.row-rule.result _ c.take_parts.result c.form_of.result refl c.row-rule.ensures c.names_of.ensures.is c.take_parts.ensures.parts c.form_of.ensures in
-    on_ok_weaker c.put.result (λ e. (c.form_of.result, is, e ∙ ap (λ us. c.form_of.result ∷ us) (drop_as c.args.production stack c.names_of.result _ c.names_of.ensures.is c.take_parts.ensures.rest))) c.put.ensures
+    let is = form_of_parts c.args.production (map lexeme_view c.args.tokens.now) stack c.names_of.result c.row-rule.result _ c.take_parts-parts.result c.form_of.result refl c.row-rule.ensures c.names_of.ensures.is c.take_parts-parts.ensures.parts c.form_of.ensures in
+    on_ok_weaker c.put.result (λ e. (c.form_of.result, is, e ∙ ap (λ us. c.form_of.result ∷ us) (drop_as c.args.production stack c.names_of.result _ c.names_of.ensures.is c.take_parts-parts.ensures.rest))) c.put.ensures

@@ -8,5 +8,5 @@ use Rattle.jd_jml_trees.proofs.nodes.TreeNodesNodesLexemeValue.reduce.Goals as g
 pub returns : goal.returns
 returns c =
     let stack = reverse c.args.stack.now.items in
-    let is = made_of c.args.production (map lexeme_view c.args.tokens.now) stack c.names_of.result c.action_at.result c.nothing.result c.take_parts.result c.in_ok-value.value c.action_at.ensures c.nothing.ensures c.names_of.ensures.is c.take_parts.ensures.parts c.in_ok-value.ensures in
-    on_ok_weaker c.put.result (λ e. (c.in_ok-value.value, is, e ∙ ap (λ us. c.in_ok-value.value ∷ us) (drop_as c.args.production stack c.names_of.result _ c.names_of.ensures.is c.take_parts.ensures.rest))) c.put.ensures
+    let is = made_of c.args.production (map lexeme_view c.args.tokens.now) stack c.names_of.result c.action_at.result c.nothing.result c.take_parts-parts.result c.in_ok-value.value c.action_at.ensures c.nothing.ensures c.names_of.ensures.is c.take_parts-parts.ensures.parts c.in_ok-value.ensures in
+    on_ok_weaker c.put.result (λ e. (c.in_ok-value.value, is, e ∙ ap (λ us. c.in_ok-value.value ∷ us) (drop_as c.args.production stack c.names_of.result _ c.names_of.ensures.is c.take_parts-parts.ensures.rest))) c.put.ensures
