@@ -4,8 +4,7 @@ ghost use Rattle.std.specs.Prelude.{◌≡◌, slice_index_or};
 ghost use Rattle.jd_jml_trees.specs.Meaning.{action_of};
 ghost use Rattle.jd_jml_trees.specs.declared.actions.TheConstants.{NOTHING as MISSING};
 
-use jd_jml_clauses::Action as clause;
-use jd_jml_clauses::{Assertion, Word};
+use jd_jml_clauses::{Action as clause, Assertion, Word};
 use jd_jml_expressions::Action as expression;
 use jd_syntax::{InfixOperator, Quantifier, SpecPrefix};
 

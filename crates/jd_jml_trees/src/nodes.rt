@@ -32,7 +32,21 @@ fn nothing() -> NodeParts<Value>
     }
 }
 
-// What a node stands for, by its action; what it does not take of its parts is let go.
+fn act_by(
+    alloc: Global,
+    action: Action,
+    tokens: &[Lexeme<'_>],
+    parts: &mut NodeParts<Value>,
+) -> Result<Value, NoMemory>
+    ensures { Gives value_view result (meaning_by action (map lexeme_view tokens.now) (parts_view parts.old)) }
+{
+    match action {
+        Action::Expression(action) => act_on_expression(alloc, action, tokens, parts),
+        Action::Clause(action) => act_on_clause(alloc, action, tokens, parts),
+    }
+}
+
+// What a node stands for, by its action; what that does not take of its parts is let go.
 fn act(
     alloc: Global,
     action: Action,
@@ -42,10 +56,7 @@ fn act(
     ensures { Gives value_view result (meaning_by action (map lexeme_view tokens.now) (parts_view parts)) }
 {
     let mut parts = parts;
-    match action {
-        Action::Expression(action) => act_on_expression(alloc, action, tokens, &mut parts),
-        Action::Clause(action) => act_on_clause(alloc, action, tokens, &mut parts),
-    }
+    act_by(alloc, action, tokens, &mut parts)
 }
 
 /// The nodes of JML, which stand for the parts of clauses.
