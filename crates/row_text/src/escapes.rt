@@ -93,19 +93,3 @@ pub fn unescaped(alloc: Global, text: &str) -> Result<Option<Vec<u8>>, AllocErro
     }
     Ok((matches!(stage, Stage::Plain) && read.repeated.is_empty()).then_some(read.bytes))
 }
-
-/// Bytes as a text on one line: `\n`, `\r`, `\t`, `\\`, and `\xHH` for each other byte that is not printed.
-pub fn escaped(alloc: Global, bytes: &[u8]) -> Result<String, AllocError> {
-    let mut text = String::new(alloc);
-    for byte in bytes {
-        match byte {
-            b'\n' => text.push_str("\\n")?,
-            b'\r' => text.push_str("\\r")?,
-            b'\t' => text.push_str("\\t")?,
-            b'\\' => text.push_str("\\\\")?,
-            b' '..=b'~' => text.push(char::from(*byte))?,
-            _ => text.push_str(format!(in alloc; "\\x{byte:02x}")?.as_str())?,
-        }
-    }
-    Ok(text)
-}
