@@ -5,24 +5,29 @@
 mod outside;
 
 use crate::outside::Outside;
-use row_text::first_word;
-use std::io::{self, BufRead, BufReader};
+use row_text::Answer;
+use std::alloc::Global;
+use std::io;
+
+fn print_row(rt: &impl Print, alloc: Global, outside: &mut Outside, row: &str) -> io::Result<()> {
+    let mut answer = Answer::new(alloc);
+    if outside.take(&mut answer, alloc, row) {
+        answer.print(rt)
+    } else {
+        Ok(())
+    }
+}
+
+fn print_rows(rt: &impl Print, alloc: Global, rows: &str) -> io::Result<()> {
+    let mut outside = Outside::new(alloc);
+    for row in rows.lines() {
+        print_row(rt, alloc, &mut outside, row)?;
+    }
+    Ok(())
+}
 
 fn main(rt: HostRuntime) -> io::Result<()> {
     let alloc = rt.alloc();
-    let mut outside = Outside::new(alloc);
-    for line in BufReader::new(alloc, rt.reader())?.lines(alloc) {
-        let line = line?;
-        let (command, rest) = first_word(&line);
-        if command.is_empty() || command.starts_with('#') {
-            continue;
-        }
-        if command == "run" {
-            let answer = outside.called(alloc, rest)?;
-            println!(rt; "{answer}")?;
-        } else if !outside.set(alloc, command, rest)? {
-            println!(rt; "no row")?;
-        }
-    }
-    Ok(())
+    let text = io::read_to_string(alloc, rt.reader())?;
+    print_rows(&rt, alloc, text.as_str())
 }

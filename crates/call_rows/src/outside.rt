@@ -1,6 +1,6 @@
-use jd_base::{MemoryLibrary, MemorySink};
+use jd_base::{MemoryLibrary, MemorySink, NoMemory};
 use jdl::run;
-use row_text::{escaped, first_word, unescaped};
+use row_text::{Answer, first_word, unescaped};
 use std::alloc::{AllocError, Global};
 use std::str::from_utf8;
 
@@ -27,8 +27,8 @@ impl Outside {
         }
     }
 
-    /// Does what a line says that is no call; false where it says nothing that is known.
-    pub fn set(&mut self, alloc: Global, command: &str, rest: &str) -> Result<bool, AllocError> {
+    // Does what a line says that is no call; false where it says nothing that is known.
+    fn set(&mut self, alloc: Global, command: &str, rest: &str) -> Result<bool, AllocError> {
         match command {
             "file" => self.put(alloc, rest),
             "add" => self.add(alloc, rest),
@@ -76,22 +76,49 @@ impl Outside {
         Ok(added)
     }
 
-    /// The status and the report of the call with these words.
-    pub fn called(&self, alloc: Global, words: &str) -> Result<String, AllocError> {
-        let Some(words) = words_of(alloc, words)? else {
-            return String::from_str(alloc, "no words");
-        };
+    // Tells the status and the report of the call with these words.
+    fn call(&self, answer: &mut Answer, alloc: Global, words: &[String]) -> Result<(), NoMemory> {
         let mut library = MemoryLibrary::new(self.files.clone()?, self.failing_reads.clone()?);
-        let Ok(mut sink) = MemorySink::new(alloc, self.room, self.failing_writes.clone()?) else {
-            return String::from_str(alloc, "no memory");
-        };
-        let status = run(alloc, &words, &mut library, &mut sink).code();
-        let report = escaped(alloc, sink.bytes())?;
-        if report.is_empty() {
-            format!(in alloc; "{status}")
-        } else {
-            format!(in alloc; "{status} {report}")
+        let mut sink = MemorySink::new(alloc, self.room, self.failing_writes.clone()?)?;
+        let status = run(alloc, words, &mut library, &mut sink).code();
+        answer.put_number(i128::from(status));
+        if !sink.bytes().is_empty() {
+            answer.put(" ");
+            answer.put_bytes(sink.bytes());
         }
+        Ok(())
+    }
+
+    fn tell_call(&self, answer: &mut Answer, alloc: Global, words: &[String]) {
+        if self.call(answer, alloc, words).is_err() {
+            answer.lack_memory();
+        }
+    }
+
+    fn tell(&self, answer: &mut Answer, alloc: Global, words: &str) {
+        match &words_of(alloc, words) {
+            Ok(Some(words)) => self.tell_call(answer, alloc, words),
+            Ok(None) => answer.put("no words"),
+            Err(_) => answer.lack_memory(),
+        }
+    }
+
+    /// Takes a line; whether there is an answer to it.
+    pub fn take(&mut self, answer: &mut Answer, alloc: Global, line: &str) -> bool {
+        let (command, rest) = first_word(line);
+        if command.is_empty() || command.starts_with('#') {
+            return false;
+        }
+        if command == "run" {
+            self.tell(answer, alloc, rest);
+            return true;
+        }
+        match self.set(alloc, command, rest) {
+            Ok(true) => return false,
+            Ok(false) => answer.put("no row"),
+            Err(_) => answer.lack_memory(),
+        }
+        true
     }
 }
 
