@@ -1,12 +1,11 @@
 //! What the tables of classes tell.
 
-use crate::words::{no_memory, no_row, type_word, word};
+use crate::words::{type_word, word};
 use jd_base::{ClassId, FamilyId, FieldId, MethodId};
 use jd_classes::{ClassInfo, Classes, FieldInfo, MethodInfo};
 use jd_syntax::JavaType;
-use row_text::first_word;
+use row_text::{Answer, first_word};
 use std::alloc::Global;
-use std::io;
 
 // ---- calls whose numbers are tested first
 
@@ -110,19 +109,24 @@ fn clustered(classes: &Classes, a: &str, b: &str) -> Option<bool> {
     same_cluster(classes, a, family_by_name(classes, b)?)
 }
 
-// ---- what is printed
+// ---- what is written
 
-fn print_number(rt: &impl Print, number: Option<u32>) -> io::Result<()> {
+fn put_u32(answer: &mut Answer, number: u32) {
+    answer.put_number(i128::from(number));
+}
+
+fn put_number(answer: &mut Answer, number: Option<u32>) {
     match number {
-        Some(number) => rt.print(number),
-        None => rt.print("none"),
+        Some(number) => put_u32(answer, number),
+        None => answer.put("none"),
     }
 }
 
-fn print_truth(rt: &impl Print, truth: Option<bool>) -> io::Result<()> {
+fn put_truth(answer: &mut Answer, truth: Option<bool>) {
     match truth {
-        Some(truth) => rt.print(truth),
-        None => rt.print("none"),
+        Some(true) => answer.put("true"),
+        Some(false) => answer.put("false"),
+        None => answer.put("none"),
     }
 }
 
@@ -134,160 +138,183 @@ fn class_name(classes: &Classes, class: ClassId) -> &str {
     }
 }
 
-fn print_seen(rt: &impl Print, classes: &Classes, method: Option<MethodId>) -> io::Result<()> {
+// The name of a class's member, behind that of the class.
+fn put_member(answer: &mut Answer, classes: &Classes, class: ClassId, name: &[u8]) {
+    answer.put(class_name(classes, class));
+    answer.put(".");
+    answer.put(word(name));
+}
+
+fn put_seen(answer: &mut Answer, classes: &Classes, method: Option<MethodId>) {
     let Some(method) = method else {
-        return rt.print("none");
+        return answer.put("none");
     };
     match method_info(classes, method) {
-        Some(info) => print!(rt; "{}.{}", class_name(classes, info.class), word(&info.name)),
-        None => rt.print("none"),
+        Some(info) => put_member(answer, classes, info.class, &info.name),
+        None => answer.put("none"),
     }
 }
 
-fn print_fields(rt: &impl Print, classes: &Classes, fields: &[FieldId]) -> io::Result<()> {
-    print!(rt; "{}", fields.len())?;
+fn put_field_name(answer: &mut Answer, classes: &Classes, field: FieldId) {
+    if let Some(info) = field_info(classes, field) {
+        answer.put(" ");
+        put_member(answer, classes, info.class, &info.name);
+    }
+}
+
+fn put_fields(answer: &mut Answer, classes: &Classes, fields: &[FieldId]) {
+    answer.put_number(fields.len() as i128);
     for field in fields {
-        if let Some(info) = field_info(classes, *field) {
-            print!(rt; " {}.{}", class_name(classes, info.class), word(&info.name))?;
-        }
+        put_field_name(answer, classes, *field);
     }
-    Ok(())
 }
 
-fn print_fields_of(
-    rt: &impl Print,
-    alloc: Global,
-    classes: &Classes,
-    class: ClassId,
-) -> io::Result<()> {
+fn put_fields_of(answer: &mut Answer, alloc: Global, classes: &Classes, class: ClassId) {
     if class.0 >= classes.class_count() {
-        return rt.print("none");
+        return answer.put("none");
     }
-    match classes.fields_of(alloc, class) {
-        Ok(fields) => print_fields(rt, classes, &fields),
-        Err(_) => no_memory(),
+    match &classes.fields_of(alloc, class) {
+        Ok(fields) => put_fields(answer, classes, fields),
+        Err(_) => answer.lack_memory(),
     }
 }
 
-fn print_types(rt: &impl Print, types: &[JavaType]) -> io::Result<()> {
+fn put_types(answer: &mut Answer, types: &[JavaType]) {
     for ty in types {
-        print!(rt; " {}", type_word(ty))?;
+        answer.put(" ");
+        answer.put(type_word(ty));
     }
-    Ok(())
 }
 
-fn print_own(rt: &impl Print, info: &ClassInfo) -> io::Result<()> {
-    rt.print(", fields")?;
-    for field in &info.fields {
-        print!(rt; " {}", field.0)?;
+fn put_own_fields(answer: &mut Answer, fields: &[FieldId]) {
+    for field in fields {
+        answer.put(" ");
+        put_u32(answer, field.0);
     }
-    rt.print(", constants")?;
-    for (name, value) in &info.constants {
-        print!(rt; " {}={value}", word(name))?;
-    }
-    rt.print(", constructor ")?;
-    print_number(rt, info.constructor.map(|method| method.0))?;
-    rt.print(", methods")?;
-    for method in &info.methods {
-        print!(rt; " {}", method.0)?;
-    }
-    Ok(())
 }
 
-fn print_class(rt: &impl Print, classes: &Classes, info: &ClassInfo) -> io::Result<()> {
-    print!(rt; "{} extends ", word(&info.name))?;
+fn put_own_methods(answer: &mut Answer, methods: &[MethodId]) {
+    for method in methods {
+        answer.put(" ");
+        put_u32(answer, method.0);
+    }
+}
+
+fn put_constants(answer: &mut Answer, constants: &[(Vec<u8>, i128)]) {
+    for (name, value) in constants {
+        answer.put(" ");
+        answer.put(word(name));
+        answer.put("=");
+        answer.put_number(*value);
+    }
+}
+
+fn put_own(answer: &mut Answer, info: &ClassInfo) {
+    answer.put(", fields");
+    put_own_fields(answer, &info.fields);
+    answer.put(", constants");
+    put_constants(answer, &info.constants);
+    answer.put(", constructor ");
+    put_number(answer, info.constructor.map(|method| method.0));
+    answer.put(", methods");
+    put_own_methods(answer, &info.methods);
+}
+
+fn put_class(answer: &mut Answer, classes: &Classes, info: &ClassInfo) {
+    answer.put(word(&info.name));
+    answer.put(" extends ");
     match info.parent {
-        Some(parent) => rt.print(class_name(classes, parent))?,
-        None => rt.print("none")?,
+        Some(parent) => answer.put(class_name(classes, parent)),
+        None => answer.put("none"),
     }
-    let declared = if info.decl.is_some() {
-        ", declared"
-    } else {
-        ""
-    };
-    print!(rt; ", file {}{declared}", info.file)?;
-    print_own(rt, info)
+    answer.put(", file ");
+    put_u32(answer, info.file);
+    if info.decl.is_some() {
+        answer.put(", declared");
+    }
+    put_own(answer, info);
 }
 
-fn print_field(rt: &impl Print, classes: &Classes, info: &FieldInfo) -> io::Result<()> {
-    let class = class_name(classes, info.class);
-    print!(rt; "{class}.{} {}", word(&info.name), type_word(&info.ty))
+fn put_field(answer: &mut Answer, classes: &Classes, info: &FieldInfo) {
+    put_member(answer, classes, info.class, &info.name);
+    answer.put(" ");
+    answer.put(type_word(&info.ty));
 }
 
-fn print_method(rt: &impl Print, classes: &Classes, info: &MethodInfo) -> io::Result<()> {
-    let class = class_name(classes, info.class);
-    print!(rt; "{class}.{} member {}", word(&info.name), info.member)?;
+fn put_method(answer: &mut Answer, classes: &Classes, info: &MethodInfo) {
+    put_member(answer, classes, info.class, &info.name);
+    answer.put(" member ");
+    put_u32(answer, info.member);
     if info.is_static {
-        rt.print(" static")?;
+        answer.put(" static");
     }
     if info.constructor {
-        rt.print(" constructor")?;
+        answer.put(" constructor");
     }
-    rt.print(", takes")?;
-    print_types(rt, &info.params)?;
-    rt.print(", gives ")?;
+    answer.put(", takes");
+    put_types(answer, &info.params);
+    answer.put(", gives ");
     match &info.result {
-        Some(ty) => rt.print(type_word(ty)),
-        None => rt.print("none"),
+        Some(ty) => answer.put(type_word(ty)),
+        None => answer.put("none"),
     }
 }
 
-fn print_counts(rt: &impl Print, classes: &Classes) -> io::Result<()> {
-    let (fields, methods) = (classes.field_count(), classes.method_count());
-    let (count, families) = (classes.class_count(), classes.family_count());
-    print!(rt; "classes {count}, fields {fields}, methods {methods}, families {families}")
+fn put_counts(answer: &mut Answer, classes: &Classes) {
+    answer.put("classes ");
+    put_u32(answer, classes.class_count());
+    answer.put(", fields ");
+    answer.put_number(classes.field_count() as i128);
+    answer.put(", methods ");
+    answer.put_number(classes.method_count() as i128);
+    answer.put(", families ");
+    put_u32(answer, classes.family_count());
 }
 
 // ---- rows
 
 // What the tables list at that number or name.
-fn print_info(rt: &impl Print, classes: &Classes, word: &str, named: &str) -> io::Result<()> {
+fn tell_info(answer: &mut Answer, classes: &Classes, word: &str, named: &str) {
     let number = named.parse::<u32>().unwrap_or(0);
     match word {
         "class" => match class_by_name(classes, named) {
-            Some(info) => print_class(rt, classes, info),
-            None => rt.print("none"),
+            Some(info) => put_class(answer, classes, info),
+            None => answer.put("none"),
         },
         "field" => match field_info(classes, FieldId(number)) {
-            Some(info) => print_field(rt, classes, info),
-            None => rt.print("none"),
+            Some(info) => put_field(answer, classes, info),
+            None => answer.put("none"),
         },
         "method" => match method_info(classes, MethodId(number)) {
-            Some(info) => print_method(rt, classes, info),
-            None => rt.print("none"),
+            Some(info) => put_method(answer, classes, info),
+            None => answer.put("none"),
         },
-        _ => no_row(),
+        _ => answer.put("no row"),
     }
 }
 
 /// Answers a row of tables.
-pub(crate) fn tell(
-    rt: &impl Print,
-    alloc: Global,
-    classes: &Classes,
-    asked: &str,
-    rest: &str,
-) -> io::Result<()> {
+pub(crate) fn tell(answer: &mut Answer, alloc: Global, classes: &Classes, asked: &str, rest: &str) {
     let (first, second) = first_word(rest);
     match asked {
-        "tables" => rt.print("ok"),
-        "counts" => print_counts(rt, classes),
+        "tables" => answer.put("ok"),
+        "counts" => put_counts(answer, classes),
         "class_named" => {
             let class = classes.class_named(first.as_bytes());
-            print_number(rt, class.map(|class| class.0))
+            put_number(answer, class.map(|class| class.0));
         }
-        "is_subclass" => print_truth(rt, below(classes, first, second)),
-        "lookup" => print_seen(rt, classes, seen(classes, first, second)),
+        "is_subclass" => put_truth(answer, below(classes, first, second)),
+        "lookup" => put_seen(answer, classes, seen(classes, first, second)),
         "fields_of" => match classes.class_named(first.as_bytes()) {
-            Some(class) => print_fields_of(rt, alloc, classes, class),
-            None => rt.print("none"),
+            Some(class) => put_fields_of(answer, alloc, classes, class),
+            None => answer.put("none"),
         },
         "family" => {
             let family = family_by_name(classes, first);
-            print_number(rt, family.map(|family| family.0))
+            put_number(answer, family.map(|family| family.0));
         }
-        "reaches" => print_truth(rt, called(classes, first, second)),
-        "same_cluster" => print_truth(rt, clustered(classes, first, second)),
-        _ => print_info(rt, classes, asked, first),
+        "reaches" => put_truth(answer, called(classes, first, second)),
+        "same_cluster" => put_truth(answer, clustered(classes, first, second)),
+        _ => tell_info(answer, classes, asked, first),
     }
 }

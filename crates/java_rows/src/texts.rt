@@ -1,58 +1,67 @@
 //! What is told of one text: its tokens, or whether it is a file.
 
-use crate::refusals::{print_fault, print_reason};
+use crate::refusals::{put_fault, put_reason};
 use crate::words::word;
 use jd_lex::{Token, TokenKind, tokens};
 use jd_source::read_source;
+use row_text::Answer;
 use std::alloc::Global;
-use std::io;
 
 /// How long a file may be.
 pub(crate) const GREATEST_LENGTH: usize = 1048576;
 
-fn print_kind(rt: &impl Print, kind: &TokenKind) -> io::Result<()> {
+fn put_kind(answer: &mut Answer, kind: &TokenKind) {
     match kind {
-        TokenKind::Word(text) => print!(rt; "word {}", word(text)),
-        TokenKind::Number(value) => print!(rt; "number {value}"),
-        TokenKind::Sign(text) => print!(rt; "sign {}", word(text)),
+        TokenKind::Word(text) => {
+            answer.put("word ");
+            answer.put(word(text));
+        }
+        TokenKind::Number(value) => {
+            answer.put("number ");
+            answer.put_number(i128::from(*value));
+        }
+        TokenKind::Sign(text) => {
+            answer.put("sign ");
+            answer.put(word(text));
+        }
     }
 }
 
-fn print_token(rt: &impl Print, token: &Token) -> io::Result<()> {
-    print!(rt; " [{}-{} ", token.from, token.to)?;
-    if token.jml {
-        rt.print("jml ")?;
-    }
-    print_kind(rt, &token.kind)?;
-    rt.print("]")
+fn put_token(answer: &mut Answer, token: &Token) {
+    answer.put(" [");
+    answer.put_number(i128::from(token.from));
+    answer.put("-");
+    answer.put_number(i128::from(token.to));
+    answer.put(if token.jml { " jml " } else { " " });
+    put_kind(answer, &token.kind);
+    answer.put("]");
 }
 
-fn print_tokens(rt: &impl Print, tokens: &[Token]) -> io::Result<()> {
-    rt.print("ok")?;
+fn put_tokens(answer: &mut Answer, tokens: &[Token]) {
+    answer.put("ok");
     for token in tokens {
-        print_token(rt, token)?;
+        put_token(answer, token);
     }
-    Ok(())
 }
 
 /// The tokens of a text, each with its offsets, or its first fault.
-pub(crate) fn tell_tokens(rt: &impl Print, alloc: Global, text: &[u8]) -> io::Result<()> {
+pub(crate) fn tell_tokens(answer: &mut Answer, alloc: Global, text: &[u8]) {
     if text.len() > GREATEST_LENGTH {
-        return rt.print("too long");
+        return answer.put("too long");
     }
-    match tokens(alloc, text) {
-        Ok(found) => print_tokens(rt, &found),
-        Err(refusal) => print_fault(rt, &refusal),
+    match &tokens(alloc, text) {
+        Ok(found) => put_tokens(answer, found),
+        Err(refusal) => put_fault(answer, refusal),
     }
 }
 
 /// Whether a text is a file, or why it is none.
-pub(crate) fn tell_source(rt: &impl Print, alloc: Global, text: &[u8]) -> io::Result<()> {
+pub(crate) fn tell_source(answer: &mut Answer, alloc: Global, text: &[u8]) {
     if text.len() > GREATEST_LENGTH {
-        return rt.print("too long");
+        return answer.put("too long");
     }
-    match read_source(alloc, text) {
-        Ok(_unit) => rt.print("ok"),
-        Err(refusal) => print_reason(rt, &refusal),
+    match &read_source(alloc, text) {
+        Ok(_unit) => answer.put("ok"),
+        Err(refusal) => put_reason(answer, refusal),
     }
 }
