@@ -1,14 +1,7 @@
-//! Tests of calls whose conditions a reader of text does not tell: indices raised, terms put for indices and names, and a step
-//! below blocks.
+//! Tests of a step below blocks, whose sequents no text reaches.
 #![tactic(auto)]
 
 #[cfg(test)]
 mod blocks;
-#[cfg(test)]
-mod locations;
-#[cfg(test)]
-mod raised;
-#[cfg(test)]
-mod replaced;
 #[cfg(test)]
 mod tables;

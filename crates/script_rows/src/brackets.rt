@@ -121,18 +121,21 @@ pub(crate) fn write_at(out: &mut Written, refusal: &[u8], at: u32) -> Result<(),
     out.number(u64::from(at))
 }
 
+// Writes the tokens of an expression of at most so many.
+fn write_tokens(alloc: Global, out: &mut Written, x: &Sx, most: usize) -> Result<(), NoMemory> {
+    let mut open = Vec::new(alloc);
+    write_sx(out, &mut open, x, most)
+}
+
 /// The expression that the text is.
 pub(crate) fn sx(alloc: Global, out: &mut Written, text: &[u8]) -> Result<(), NoMemory>
     requires { length text.now ≤ 4294967295 }
 {
-    match read_sx(alloc, text) {
-        Ok(x) => {
-            let mut open = Vec::new(alloc);
-            write_sx(out, &mut open, &x, text.len())
-        }
-        Err(SxRefusal::Syntax { at, .. }) => write_at(out, b"Syntax", at),
+    match &read_sx(alloc, text) {
+        Ok(x) => write_tokens(alloc, out, x, text.len()),
+        Err(SxRefusal::Syntax { at, .. }) => write_at(out, b"Syntax", *at),
         Err(SxRefusal::Truncated) => out.word(b"Truncated"),
-        Err(SxRefusal::TooDeep { at, .. }) => write_at(out, b"TooDeep", at),
+        Err(SxRefusal::TooDeep { at, .. }) => write_at(out, b"TooDeep", *at),
         Err(SxRefusal::NoMemory) => Err(NoMemory),
     }
 }

@@ -1,20 +1,32 @@
-//! Rows of texts in brackets, proof scripts, trees of steps and sequents. A row is an operation and a text; the answer to it is a
-//! line.
+//! Rows of texts in brackets, proof scripts and trees of steps. A row is an operation and a text; the answer to it is a line.
 #![tactic(auto)]
 
 mod brackets;
 mod rows;
 mod scripts;
-mod sequents;
 
-use crate::rows::print_answer;
+use crate::rows::tell;
+use row_text::Answer;
+use std::alloc::Global;
 use std::io;
-use std::io::{BufRead, BufReader};
+
+fn print_row(rt: &impl Print, alloc: Global, row: &str) -> io::Result<()> {
+    let mut answer = Answer::new(alloc);
+    tell(&mut answer, alloc, row);
+    answer.print(rt)
+}
+
+fn print_rows(rt: &impl Print, alloc: Global, rows: &str) -> io::Result<()> {
+    for row in rows.lines() {
+        if !row.is_empty() && !row.starts_with('#') {
+            print_row(rt, alloc, row)?;
+        }
+    }
+    Ok(())
+}
 
 fn main(rt: HostRuntime) -> io::Result<()> {
     let alloc = rt.alloc();
-    for line in BufReader::new(alloc, rt.reader())?.lines(alloc) {
-        print_answer(&rt, alloc, line?.as_str())?;
-    }
-    Ok(())
+    let text = io::read_to_string(alloc, rt.reader())?;
+    print_rows(&rt, alloc, text.as_str())
 }

@@ -4,7 +4,7 @@ ghost use Rattle.std.specs.Prelude.{◌≤◌, length, map, IfOk};
 ghost use Rattle.jd_scripts.specs.Scripts.{AreDistinct};
 
 use crate::brackets::write_at;
-use jd_base::{NoMemory, copy_bytes};
+use jd_base::{NoMemory, both, copy_bytes};
 use jd_proofs::{ProofsRefusal, proofs_for};
 use jd_script::{Proof, ScriptRefusal, parse_script};
 use jd_script_print::print_script;
@@ -42,17 +42,19 @@ fn write_text(out: &mut Written, text: &[u8]) -> Result<(), NoMemory> {
 }
 
 fn write_script(alloc: Global, out: &mut Written, proofs: &[Proof]) -> Result<(), NoMemory> {
-    let text = print_script(alloc, proofs)?;
-    write_text(out, &text)
+    match &print_script(alloc, proofs) {
+        Ok(text) => write_text(out, text),
+        Err(NoMemory) => Err(NoMemory),
+    }
 }
 
 /// The file of scripts that the text is, printed.
 pub(crate) fn script(alloc: Global, out: &mut Written, text: &[u8]) -> Result<(), NoMemory>
     requires { length text.now ≤ 4294967295 }
 {
-    match parse_script(alloc, text) {
-        Ok(proofs) => write_script(alloc, out, &proofs),
-        Err(refusal) => write_refusal(out, &refusal),
+    match &parse_script(alloc, text) {
+        Ok(proofs) => write_script(alloc, out, proofs),
+        Err(refusal) => write_refusal(out, refusal),
     }
 }
 
@@ -94,17 +96,26 @@ fn write_trees(out: &mut Written, trees: &[Option<ScriptTree>]) -> Result<(), No
     Ok(())
 }
 
+fn write_outcome(
+    out: &mut Written,
+    outcome: &Result<Vec<Option<ScriptTree>>, ProofsRefusal>,
+) -> Result<(), NoMemory> {
+    match outcome {
+        Ok(trees) => write_trees(out, trees),
+        Err(ProofsRefusal::File(refusal)) => write_refusal(out, refusal),
+        Err(ProofsRefusal::UnknownObligation { name }) => {
+            write_named(out, b"UnknownObligation", name)
+        }
+    }
+}
+
 /// The proofs of the three obligations in the file of scripts that the text is.
 pub(crate) fn proofs(alloc: Global, out: &mut Written, text: &[u8]) -> Result<(), NoMemory>
     requires { length text.now ≤ 4294967295 }
 {
-    let names = three_names(alloc)?;
-    match proofs_for(alloc, &names, text) {
-        Ok(trees) => write_trees(out, &trees),
-        Err(ProofsRefusal::File(refusal)) => write_refusal(out, &refusal),
-        Err(ProofsRefusal::UnknownObligation { name }) => {
-            write_named(out, b"UnknownObligation", &name)
-        }
+    match &three_names(alloc) {
+        Ok(names) => write_outcome(out, &proofs_for(alloc, names, text)),
+        Err(NoMemory) => Err(NoMemory),
     }
 }
 
@@ -131,36 +142,60 @@ fn number_in(word: &[u8]) -> u32 {
     }
 }
 
-// Adds a node: a step for a word that begins with `s`, else a leaf. The number in the word is that of its children.
-fn add_node(alloc: Global, nodes: &mut Vec<ScriptNode>, word: &[u8]) -> Result<(), NoMemory> {
+// A step for a word that begins with `s`.
+fn step_for(alloc: Global, word: &[u8]) -> Result<Option<Box<Step>>, NoMemory> {
+    match word {
+        [b's', ..] => match new_step(alloc) {
+            Ok(step) => Ok(Some(step)),
+            Err(error) => Err(error),
+        },
+        _ => Ok(None),
+    }
+}
+
+// The node of a word, the number in which is that of its children.
+fn node_for(alloc: Global, word: &[u8]) -> Result<ScriptNode, NoMemory> {
     let children = number_in(word);
-    let step = match word {
-        [b's', ..] => Some(new_step(alloc)?),
-        _ => None,
-    };
-    nodes.push(ScriptNode { step, children })?;
+    match step_for(alloc, word) {
+        Ok(step) => Ok(ScriptNode { step, children }),
+        Err(error) => Err(error),
+    }
+}
+
+fn add<T: Drop>(all: &mut Vec<T>, made: Result<T, NoMemory>) -> Result<(), NoMemory> {
+    all.push(made?)?;
     Ok(())
 }
 
-fn add_nodes(alloc: Global, nodes: &mut Vec<ScriptNode>, text: &[u8]) -> Result<(), NoMemory> {
+fn nodes_in(alloc: Global, text: &[u8]) -> Result<Vec<ScriptNode>, NoMemory> {
+    let mut nodes = Vec::new(alloc);
     for word in text.split(|byte| *byte == b' ') {
         if !word.is_empty() {
-            add_node(alloc, nodes, word)?;
+            add(&mut nodes, node_for(alloc, word))?;
         }
     }
-    Ok(())
+    Ok(nodes)
+}
+
+fn named(name: Vec<u8>, tree: Option<ScriptTree>) -> Option<Proof> {
+    match tree {
+        Some(tree) => Some(Proof { name, tree }),
+        None => None,
+    }
+}
+
+fn proof_of(alloc: Global, text: &[u8]) -> Result<Option<Proof>, NoMemory> {
+    match both(copy_bytes(alloc, b"t"), nodes_in(alloc, text)) {
+        Ok((name, nodes)) => Ok(named(name, one_tree(nodes))),
+        Err(error) => Err(error),
+    }
 }
 
 /// The tree whose nodes in preorder these are, printed as the proof `t`.
 pub(crate) fn tree(alloc: Global, out: &mut Written, text: &[u8]) -> Result<(), NoMemory> {
-    let name = copy_bytes(alloc, b"t")?;
-    let mut nodes = Vec::new(alloc);
-    add_nodes(alloc, &mut nodes, text)?;
-    match one_tree(nodes) {
-        None => out.word(b"none"),
-        Some(tree) => {
-            let proof = Proof { name, tree };
-            write_script(alloc, out, from_ref(&proof))
-        }
+    match &proof_of(alloc, text) {
+        Ok(Some(proof)) => write_script(alloc, out, from_ref(proof)),
+        Ok(None) => out.word(b"none"),
+        Err(NoMemory) => Err(NoMemory),
     }
 }

@@ -1,25 +1,38 @@
 //! Rows of sequents, which are written `((FORMULA ..) (FORMULA ..))`.
 
-use crate::formulas::{formula_in, formula_of, printed};
-use crate::texts::{expression, said, two_texts};
+use crate::formulas::{BINDERS, formula_of, put_formula, put_printed};
+use crate::operations::in_formula;
+use crate::texts::{expression, found, made, two_texts};
 use jd_base::{NoMemory, both};
 use jd_model::{Node, Place, Sequent, Side, at, replace_at};
-use jd_print::{print_formula, print_term};
+use jd_print::print_term;
 use jd_sequent_print::print_sequent;
 use jd_syntax::Sx;
-use jd_term::{Formula, Loc, Term};
+use jd_term::Formula;
+use jd_tformula::read_formula;
 use jd_tparse::Names;
-use row_text::first_word;
+use row_text::{Answer, first_word};
 use std::alloc::Global;
+
+/// Adds what was read; whether that was something.
+pub(crate) fn add_read<T: Drop>(
+    all: &mut Vec<T>,
+    read: Result<Option<T>, NoMemory>,
+) -> Result<bool, NoMemory> {
+    match read? {
+        Some(x) => all.push(x)?,
+        None => return Ok(false),
+    }
+    Ok(true)
+}
 
 // The formulas of a list, up to one that is none.
 fn formulas_in(alloc: Global, names: &Names<'_>, parts: &[Sx]) -> Result<Vec<Formula>, NoMemory> {
     let mut formulas = Vec::new(alloc);
     for part in parts {
-        let Some(formula) = formula_in(alloc, names, part)? else {
-            return Ok(formulas);
-        };
-        formulas.push(formula)?;
+        if !add_read(&mut formulas, read_formula(alloc, names, &BINDERS, part))? {
+            break;
+        }
     }
     Ok(formulas)
 }
@@ -37,9 +50,10 @@ fn sequent_in(alloc: Global, names: &Names<'_>, x: &Sx) -> Result<Option<Sequent
 }
 
 fn sequent_of(alloc: Global, names: &Names<'_>, text: &str) -> Result<Option<Sequent>, NoMemory> {
-    match expression(alloc, text)? {
-        Some(x) => sequent_in(alloc, names, &x),
-        None => Ok(None),
+    match &expression(alloc, text) {
+        Ok(Some(x)) => sequent_in(alloc, names, x),
+        Ok(None) => Ok(None),
+        Err(NoMemory) => Err(NoMemory),
     }
 }
 
@@ -65,78 +79,100 @@ fn place_of(alloc: Global, word: &str) -> Result<Place, NoMemory> {
     Ok(Place { side, index, path })
 }
 
-// A location set in the text of `(in null created L)`.
-fn printed_loc(alloc: Global, names: &Names<'_>, locations: &Loc) -> Result<Vec<u8>, NoMemory> {
-    let made = match locations.copy(alloc) {
-        Ok(copied) => Ok(Formula::InLocations(Term::NullTerm, Term::CreatedField, copied)),
-        Err(error) => Err(error),
-    };
-    printed(alloc, names, made)
+/// The text of a sequent that is made here alone.
+pub(crate) fn put_sequent(
+    answer: &mut Answer,
+    alloc: Global,
+    names: &Names<'_>,
+    sequent: &Result<Sequent, NoMemory>,
+) {
+    if let Some(s) = made(answer, sequent) {
+        answer.put_made(print_sequent(alloc, s, names));
+    }
 }
 
-fn found(
+fn tell_node(
+    answer: &mut Answer,
     alloc: Global,
     names: &Names<'_>,
     sequent: &Sequent,
     place: &Place,
-) -> Result<Vec<u8>, NoMemory> {
+) {
     match at(sequent, place) {
-        Some(Node::Formula(formula)) => print_formula(alloc, formula, names),
-        Some(Node::Term(term)) => print_term(alloc, term, names),
-        Some(Node::Loc(locations)) => printed_loc(alloc, names, locations),
-        None => said(alloc, "none"),
+        Some(Node::Formula(formula)) => put_formula(answer, alloc, names, formula),
+        Some(Node::Term(term)) => answer.put_made(print_term(alloc, term, names)),
+        Some(Node::Loc(locations)) => put_printed(
+            answer,
+            alloc,
+            names,
+            in_formula(locations.copy(alloc)),
+        ),
+        None => answer.put("none"),
     }
 }
 
-fn copied(alloc: Global, names: &Names<'_>, sequent: &Sequent) -> Result<Vec<u8>, NoMemory> {
-    let copied = sequent.copy(alloc)?;
-    print_sequent(alloc, &copied, names)
-}
-
-fn replaced(
+fn put_replaced(
+    answer: &mut Answer,
     alloc: Global,
     names: &Names<'_>,
     sequent: &Sequent,
     place: &Place,
     with: &Formula,
-) -> Result<Vec<u8>, NoMemory> {
+) {
     let Some(Node::Formula(_)) = at(sequent, place) else {
-        return said(alloc, "none");
+        return answer.put("none");
     };
-    let replaced = replace_at(alloc, sequent, place, with)?;
-    print_sequent(alloc, &replaced, names)
+    put_sequent(
+        answer,
+        alloc,
+        names,
+        &replace_at(alloc, sequent, place, with),
+    );
 }
 
-fn replaced_by_text(
+fn tell_replaced(
+    answer: &mut Answer,
     alloc: Global,
     names: &Names<'_>,
     sequent: &Sequent,
     place: &Place,
     text: &str,
-) -> Result<Vec<u8>, NoMemory> {
-    match formula_of(alloc, names, text)? {
-        Some(with) => replaced(alloc, names, sequent, place, &with),
-        None => said(alloc, "none"),
+) {
+    if let Some(with) = found(answer, &formula_of(alloc, names, &BINDERS, text)) {
+        put_replaced(answer, alloc, names, sequent, place, with);
+    }
+}
+
+fn tell_at(
+    answer: &mut Answer,
+    alloc: Global,
+    names: &Names<'_>,
+    operation: &str,
+    sequent: &Sequent,
+    place: &Place,
+    text: &str,
+) {
+    match operation {
+        "copy" => put_sequent(answer, alloc, names, &sequent.copy(alloc)),
+        "at" => tell_node(answer, alloc, names, sequent, place),
+        "replace" => tell_replaced(answer, alloc, names, sequent, place, text),
+        _ => answer.put("no such operation"),
     }
 }
 
 /// What a row `sequent OPERATION PLACE TEXT` or `sequent replace PLACE TEXT | FORMULA` asks for.
-pub(crate) fn answer(
+pub(crate) fn tell(
+    answer: &mut Answer,
     alloc: Global,
     names: &Names<'_>,
     operation: &str,
     text: &str,
-) -> Result<Vec<u8>, NoMemory> {
+) {
     let (word, text) = first_word(text);
     let (one, other) = two_texts(text);
-    let (place, sequent) = both(place_of(alloc, word), sequent_of(alloc, names, one))?;
-    let Some(sequent) = &sequent else {
-        return said(alloc, "none");
-    };
-    match operation {
-        "copy" => copied(alloc, names, sequent),
-        "at" => found(alloc, names, sequent, &place),
-        "replace" => replaced_by_text(alloc, names, sequent, &place, other),
-        _ => said(alloc, "no such operation"),
+    if let Some(sequent) = found(answer, &sequent_of(alloc, names, one)) {
+        if let Some(place) = made(answer, &place_of(alloc, word)) {
+            tell_at(answer, alloc, names, operation, sequent, place, other);
+        }
     }
 }

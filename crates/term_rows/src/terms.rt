@@ -1,56 +1,60 @@
 //! Rows of terms.
 
-use crate::texts::{expression, number, refused, said, sort_in};
+use crate::texts::{expression, found, put_refusal, sort_in};
 use jd_base::{NoMemory, Sort};
 use jd_print::print_term;
 use jd_syntax::Sx;
 use jd_term::{Term, copy_term, depth_term, size_term};
 use jd_tparse::{Names, parse_term};
-use row_text::first_word;
+use row_text::{Answer, first_word};
 use std::alloc::Global;
 
-fn copied(alloc: Global, names: &Names<'_>, term: &Term) -> Result<Vec<u8>, NoMemory> {
-    let copied = copy_term(alloc, term)?;
-    print_term(alloc, &copied, names)
-}
-
-fn made(
+/// The text of a term that is made here alone.
+pub(crate) fn put_term(
+    answer: &mut Answer,
     alloc: Global,
     names: &Names<'_>,
-    operation: &str,
-    term: &Term,
-) -> Result<Vec<u8>, NoMemory> {
-    match operation {
-        "read" => copied(alloc, names, term),
-        "size" => number(alloc, size_term(term)),
-        "depth" => number(alloc, depth_term(term)),
-        _ => said(alloc, "no such operation"),
+    term: Result<Term, NoMemory>,
+) {
+    match &term {
+        Ok(t) => answer.put_made(print_term(alloc, t, names)),
+        Err(NoMemory) => answer.lack_memory(),
     }
 }
 
-fn parsed(
+fn tell_term(answer: &mut Answer, alloc: Global, names: &Names<'_>, operation: &str, term: &Term) {
+    match operation {
+        "read" => put_term(answer, alloc, names, copy_term(alloc, term)),
+        "size" => answer.put_number(i128::from(size_term(term))),
+        "depth" => answer.put_number(i128::from(depth_term(term))),
+        _ => answer.put("no such operation"),
+    }
+}
+
+fn tell_parsed(
+    answer: &mut Answer,
     alloc: Global,
     names: &Names<'_>,
     operation: &str,
     sort: Sort,
     x: &Sx,
-) -> Result<Vec<u8>, NoMemory> {
-    match parse_term(alloc, x, sort, names) {
-        Ok(term) => made(alloc, names, operation, &term),
-        Err(refusal) => refused(alloc, refusal),
+) {
+    match &parse_term(alloc, x, sort, names) {
+        Ok(term) => tell_term(answer, alloc, names, operation, term),
+        Err(refusal) => put_refusal(answer, *refusal),
     }
 }
 
 /// What a row `term OPERATION SORT TEXT` asks for, of the closed term of that sort that the text is.
-pub(crate) fn answer(
+pub(crate) fn tell(
+    answer: &mut Answer,
     alloc: Global,
     names: &Names<'_>,
     operation: &str,
     text: &str,
-) -> Result<Vec<u8>, NoMemory> {
+) {
     let (word, text) = first_word(text);
-    match expression(alloc, text)? {
-        Some(x) => parsed(alloc, names, operation, sort_in(word), &x),
-        None => said(alloc, "none"),
+    if let Some(x) = found(answer, &expression(alloc, text)) {
+        tell_parsed(answer, alloc, names, operation, sort_in(word), x);
     }
 }
