@@ -20,9 +20,9 @@ use Rattle.jd_jmlparse.specs.Places.{name_of}
 -- ---- what is read
 
 -- the tokens are derived so as the JML of that place
-pub record Derives (place : SpecPlace) (ts : List lexed.Token) (tree : Forest) : Type 0 where
-  pub tree : IsForest jml_productions tree (Name (name_of place) ∷ []) []
-  pub tokens : yield tree ≡ kinds_of (lexemes_of ts)
+pub record Derives (place : SpecPlace) (ts : List lexed.Token) (specs : Forest) : Type 0 where
+  pub tree : IsForest jml_productions specs (Name (name_of place) ∷ []) []
+  pub tokens : yield specs ≡ kinds_of (lexemes_of ts)
 
 -- what a derivation tells beyond the grammar
 abbrev pub told : List lexed.Token → Forest → PlainForm

@@ -59,11 +59,7 @@ fn place_of_token(tokens: &[Token], number: usize) -> u32
 }
 
 // The derivation of the JML of a place that tokens are.
-fn derivation(
-    alloc: Global,
-    place: SpecPlace,
-    lexemes: &[Lexeme<'_>],
-) -> Result<Vec<u16>, Refusal>
+fn derivation(alloc: Global, place: SpecPlace, lexemes: &[Lexeme<'_>]) -> Result<Vec<u16>, Refusal>
     ensures ok { IfOk result (λ order. SpellsOrder jml_productions (places.name_of place) (the_kinds (map lexeme_view lexemes.now)) order.items) }
     ensures err { IfErr result (IsRefusal jml_productions (places.name_of place) (the_kinds (map lexeme_view lexemes.now))) }
 {
