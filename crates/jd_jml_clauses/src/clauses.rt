@@ -16,7 +16,8 @@ use jd_base::NoMemory;
 use jd_grammar::NodeParts;
 use jd_jml_tokens::{Lexeme, place_of};
 use jd_jml_values::{
-    Value, appended, clauses, discard, expression, locations, name, names, some_name, turned, with,
+    Value, appended, clauses, discard, expression, locations, name, names, some_name, taken,
+    turned, with,
 };
 use jd_syntax::{ClauseForm, Identifier, SpecClause, SpecExpr, SpecForm};
 use std::alloc::Global;
@@ -44,13 +45,27 @@ fn clause(alloc: Global, tokens: &[Lexeme<'_>], form: ClauseForm) -> Result<Valu
     clause_before(SpecClause { at, form }, Vec::new(alloc))
 }
 
+// The clauses of a last part, if it has some, behind others; no list but a short one is copied.
+#[tactic(auto, using(jd_jml_values::proofs::Backwards::reversed_append, crate::proofs::Lists::nothing_behind))]
+fn ended(others: Vec<SpecClause>, last: Value) -> Result<Vec<SpecClause>, NoMemory>
+    ensures { Gives (backwards clause_view) result (backwards clause_view others ++ part.clauses_of (value_view last)) }
+{
+    match last {
+        Value::Clauses(last) => appended(last, others),
+        other => {
+            discard(other);
+            Ok(others)
+        }
+    }
+}
+
 // The clauses of the parts, the last first.
 #[tactic(auto, using(jd_jml_values::proofs::Backwards::reversed_append))]
 fn all(alloc: Global, parts: &mut NodeParts<Value>) -> Result<Vec<SpecClause>, NoMemory>
     ensures { Gives (backwards clause_view) result (plain.all_clauses (parts_view parts.old)) }
 {
-    let third = clauses(alloc, &mut parts.third);
-    let behind = appended(third, clauses(alloc, &mut parts.second))?;
+    let second = clauses(alloc, &mut parts.second);
+    let behind = ended(second, taken(&mut parts.third))?;
     appended(behind, clauses(alloc, &mut parts.first))
 }
 
