@@ -1,4 +1,5 @@
 ghost use Rattle.jd_jmlparse.specs.OneAnswer.{OneAnswer};
+ghost use Rattle.jd_jmlparse.specs.OneFilling.{OneFilling};
 
 use jd_jml_grammar::one_derivation;
 
@@ -7,4 +8,11 @@ pub fn one_answer()
     ensures { OneAnswer }
 {
     one_derivation();
+}
+
+/// A tree is filled in one way at most, is then not refused but for want of memory, and is refused for one reason.
+pub fn one_filling()
+    ensures { OneFilling }
+{
+    one_answer();
 }
