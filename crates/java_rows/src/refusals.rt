@@ -22,7 +22,7 @@ pub(crate) fn put_fault(answer: &mut Answer, refusal: &LexRefusal) {
     }
 }
 
-fn put_misfit(answer: &mut Answer, refusal: &ParseRefusal) {
+pub(crate) fn put_misfit(answer: &mut Answer, refusal: &ParseRefusal) {
     match refusal {
         ParseRefusal::Syntax { at } => put_at(answer, "Syntax ", *at),
         ParseRefusal::Unsupported { at, what } => {

@@ -5,7 +5,7 @@ ghost use Rattle.std.specs.List.{All};
 
 use crate::refusals::put_files_refusal;
 use crate::tables::tell;
-use crate::texts::{GREATEST_LENGTH, tell_source, tell_tokens};
+use crate::texts::{GREATEST_LENGTH, tell_java, tell_source, tell_tokens};
 use jd_files::classes_of;
 use row_text::{Answer, first_word, unescaped};
 use std::alloc::{AllocError, Global};
@@ -42,6 +42,7 @@ fn ask(answer: &mut Answer, alloc: Global, files: &[Vec<u8>], word: &str, rest: 
 fn ask_text(answer: &mut Answer, alloc: Global, word: &str, text: &[u8]) {
     match word {
         "tokens" => tell_tokens(answer, alloc, text),
+        "java" => tell_java(answer, alloc, text),
         _ => tell_source(answer, alloc, text),
     }
 }
@@ -113,7 +114,7 @@ impl Rows {
 
     // What a line asks that sets nothing.
     fn tell(&self, answer: &mut Answer, alloc: Global, word: &str, rest: &str) {
-        if word != "tokens" && word != "read" {
+        if !matches!(word, "tokens" | "java" | "read") {
             return ask(answer, alloc, &self.files, word, rest);
         }
         match &self.bytes_of(alloc, rest) {
@@ -124,7 +125,7 @@ impl Rows {
     }
 
     /// Takes a line: `around BEFORE|BEHIND`, `files` for none yet, `file TEXT` for one more, `numbered COUNT TEXT` for one
-    /// more of that text so many times, and the rows `tokens TEXT`, `read TEXT` and those of tables. The texts between stand
+    /// more of that text so many times, and the rows `tokens TEXT`, `java TEXT`, `read TEXT` and those of tables. The texts between stand
     /// between BEFORE and BEHIND. Lines that are empty or begin with `#` are passed over. Whether there is an answer.
     pub(crate) fn take(&mut self, answer: &mut Answer, alloc: Global, line: &str) -> bool {
         if line.is_empty() || line.starts_with('#') {

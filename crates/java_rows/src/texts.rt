@@ -1,7 +1,8 @@
 //! What is told of one text: its tokens, or whether it is a file.
 
-use crate::refusals::{put_fault, put_reason};
+use crate::refusals::{put_fault, put_misfit, put_reason};
 use crate::words::word;
+use jd_jparse::parse_unit;
 use jd_lex::{Token, TokenKind, tokens};
 use jd_source::read_source;
 use row_text::Answer;
@@ -51,6 +52,27 @@ pub(crate) fn tell_tokens(answer: &mut Answer, alloc: Global, text: &[u8]) {
     }
     match &tokens(alloc, text) {
         Ok(found) => put_tokens(answer, found),
+        Err(refusal) => put_fault(answer, refusal),
+    }
+}
+
+fn tell_parsed(answer: &mut Answer, alloc: Global, tokens: &[Token]) {
+    if tokens.len() > GREATEST_LENGTH {
+        return answer.put("too long");
+    }
+    match &parse_unit(alloc, tokens) {
+        Ok(_unit) => answer.put("ok"),
+        Err(refusal) => put_misfit(answer, refusal),
+    }
+}
+
+/// Whether the Java of a text is a file's, or why it is none's.
+pub(crate) fn tell_java(answer: &mut Answer, alloc: Global, text: &[u8]) {
+    if text.len() > GREATEST_LENGTH {
+        return answer.put("too long");
+    }
+    match &tokens(alloc, text) {
+        Ok(found) => tell_parsed(answer, alloc, found),
         Err(refusal) => put_fault(answer, refusal),
     }
 }

@@ -1,20 +1,42 @@
 -- Files within their limits have not too many classes and members.
-use Rattle.std.proofs.Common.{◌≤◌, ◌*◌, ℕ, List, [], ◌∷◌, length, ap, arith}
+use Rattle.std.proofs.Common.{◌≡◌, ◌≤◌, ◌*◌, ℕ, List, [], ◌∷◌, length, map, refl, ap, arith}
 use Rattle.std.specs.List.{All}
 use Rattle.std.proofs.lemmas.List.Elements.{All-head, All-tail, All-weaker}
-use Rattle.jd_syntax.specs.JavaTrees.{JavaUnit}
+use Rattle.jd_syntax.specs.JavaTrees.{JavaMember, FieldMember, ConstantMember, MethodMember, JavaClass, JavaUnit}
+use Rattle.jd_jmlparse.specs.Filled.{bare, bare_member, bare_class}
 use Rattle.jd_source.specs.Sources.{IsSource}
 use Rattle.jd_jclasses.specs.Classes.{DeclaredClass, declared_classes}
 use Rattle.jd_jclasses.specs.Members.{declared_members}
 use Rattle.jd_jlists.specs.Views.{HasFewMembers}
-use Rattle.jd_jsizes.specs.Sizes.{unit_size, files_size, TokensAreFew, TreesAreSmall, ClassesAreFew, PlacesAreFew, MembersAreFew}
+use Rattle.jd_jsizes.specs.Sizes.{member_size, members_size, classes_size, unit_size, files_size, TokensAreFew, TreesAreSmall, ClassesAreFew, PlacesAreFew, MembersAreFew}
 use Rattle.jd_files.specs.Files.{AreTrees, file_limit}
 use Rattle.jd_files.proofs.Trees.{as_many_trees}
+
+-- ---- the clauses of JML do not count
+
+member_bare : (m : JavaMember) → member_size (bare_member m) ≡ member_size m
+member_bare (FieldMember f) = refl
+member_bare (ConstantMember c) = refl
+member_bare (MethodMember m) = refl
+
+members_bare : (ms : List JavaMember) → members_size (map bare_member ms) ≡ members_size ms
+members_bare [] = refl
+members_bare (m ∷ ms) = omega (arith, member_bare m, members_bare ms)
+
+classes_bare : (cs : List JavaClass) → classes_size (map bare_class cs) ≡ classes_size cs
+classes_bare [] = refl
+classes_bare (c ∷ cs) = omega (arith, members_bare c.members, classes_bare cs)
+
+-- two trees that differ in them have one size
+same_size : (t u : JavaUnit) → bare t ≡ bare u → unit_size t ≡ unit_size u
+same_size t u same = omega (arith, classes_bare t.classes, classes_bare u.classes, ap unit_size same)
+
+-- ---- files within their limits
 
 small_file : TokensAreFew → TreesAreSmall → (bytes : List ℕ) (t : JavaUnit) → IsSource bytes t → unit_size t ≤ 2 * length bytes
 small_file few small bytes t s =
     let less = small s.tokens s.read.file s.read.spelled.derived in
-    omega (arith, less, ap unit_size s.read.is, few bytes s.tokens s.spelled)
+    omega (arith, less, ap unit_size s.read.is, same_size t s.java s.filled.same, few bytes s.tokens s.spelled)
 
 small_files : TokensAreFew → TreesAreSmall → (bs : List (List ℕ)) (ts : List JavaUnit) → AreTrees bs ts → All (λ b. length b ≤ file_limit) bs → files_size ts ≤ length bs * 2097152
 small_files few small [] [] are within = omega arith

@@ -9,12 +9,12 @@ use Rattle.jd_lex.specs.Parts.{Fault, Token, BadByte, OpenComment, BigLiteral}
 use Rattle.jd_lex.specs.declared.token.LexRefusal.{LexRefusal}
 use Rattle.jd_lex.specs.declared.token.LexRefusal.TheVariants as lexical
 use Rattle.jd_syntax.specs.JavaTrees.{JavaUnit, unit_view}
-use Rattle.jd_jparse.specs.Parses.{IsUnsupported, IsNoFile, IsTooDeep}
+use Rattle.jd_jparse.specs.Parses.{IsUnsupported}
 use Rattle.jd_jparse.specs.declared.refusal.ParseRefusal.{ParseRefusal}
 use Rattle.jd_jparse.specs.declared.refusal.ParseRefusal.TheVariants as grammatical
 use Rattle.jd_source.specs.declared.read.SourceRefusal.{SourceRefusal}
 use Rattle.jd_source.specs.declared.read.SourceRefusal.TheVariants.{Lexical, Grammatical}
-use Rattle.jd_source.specs.Sources.{IsSource, IsReason, IsRefused, SpellSome, Reason, Faulty, Unsupported, NoFile, TooDeep, reason_of}
+use Rattle.jd_source.specs.Sources.{IsSource, IsReason, IsRefused, LackFile, NestTooDeep, SpellSome, Reason, Faulty, Unsupported, NoFile, TooDeep, reason_of}
 use Rattle.jd_files.specs.Files.{HasTokens, IsFile, AreTrees, IsFirstRefused, for_text, for_grammar}
 use Rattle.jd_files.specs.Readings.{HasTreeToo, HasMisfitToo, IsRefusedToo, ReadsMore, tree, misfit, faulty}
 use Rattle.jd_files.specs.Refusals.{AreRefused, of_file, OfFile, RefusesFile}
@@ -163,11 +163,11 @@ reads_refused so_far number bytes (Lexical (lexical.OpenComment at)) more some r
 reads_refused so_far number bytes (Lexical (lexical.BigLiteral at)) more some refused too = of_text so_far number bytes (lexical.BigLiteral at) (BigLiteral at) more refl refused too
 reads_refused so_far number bytes (Lexical lexical.NoMemory) more some refused too = absurd (true≢false some)
 reads_refused so_far number bytes (Grammatical (grammatical.Syntax at)) more some refused too =
-    of_tokens so_far number bytes (grammatical.Syntax at) (NoFile at) more refl (spelled_some IsNoFile bytes refused.0) refused too
+    of_tokens so_far number bytes (grammatical.Syntax at) (NoFile at) more refl (spelled_some LackFile bytes refused.0) refused too
 reads_refused so_far number bytes (Grammatical (grammatical.Unsupported at what)) more some refused too =
     of_tokens so_far number bytes (grammatical.Unsupported at what) (Unsupported at what.items) more refl (spelled_some (λ ts. IsUnsupported ts at what.items) bytes refused) refused too
 reads_refused so_far number bytes (Grammatical (grammatical.TooDeep at)) more some refused too =
-    of_tokens so_far number bytes (grammatical.TooDeep at) (TooDeep at) more refl (spelled_some IsTooDeep bytes refused.0) refused too
+    of_tokens so_far number bytes (grammatical.TooDeep at) (TooDeep at) more refl (spelled_some NestTooDeep bytes refused.0) refused too
 reads_refused so_far number bytes (Grammatical grammatical.NoMemory) more some refused too = absurd (true≢false some)
 
 -- ---- the code's files

@@ -5,17 +5,30 @@ use Rattle.jd_lex.specs.Lexing.{Spells, IsFirstFault}
 use Rattle.jd_lex.specs.declared.token.LexRefusal.TheVariants as lexical
 use Rattle.jd_syntax.specs.JavaTrees.{JavaUnit}
 use Rattle.jd_jparse.specs.Parses.{Reads, IsUnsupported, IsNoFile, IsTooDeep}
+use Rattle.jd_jmlparse.specs.Filled.{Fills, HasNoSpec, HasDeepSpec}
 use Rattle.jd_jparse.specs.declared.refusal.ParseRefusal.TheVariants as grammatical
 use Rattle.jd_source.specs.declared.read.SourceRefusal.{SourceRefusal}
 use Rattle.jd_source.specs.declared.read.SourceRefusal.TheVariants as refusals
 
--- the bytes spell tokens, and these are a file with this tree
+-- the bytes spell tokens, these are a file of Java, and this is its tree with the clauses of its JML
 pub record IsSource (bytes : List ℕ) (tree : JavaUnit) : Type 0 where
   pub tokens : List Token
   pub spelled : Spells bytes tokens
-  pub read : Reads tokens tree
+  pub java : JavaUnit
+  pub read : Reads tokens java
+  pub filled : Fills tokens java tree
 
 -- ---- why bytes are no file
+
+-- no file of Java has the tokens; or one has, and the first of its JML that is refused is none of its place
+pub data LackFile (ts : List Token) : Type 0 where
+  of_java : IsNoFile ts → LackFile ts
+  of_jml : (java : JavaUnit) → Reads ts java → HasNoSpec ts java → LackFile ts
+
+-- they are a file in which something of Java is too high; or nothing is, and in the first of its JML that is refused something is
+pub data NestTooDeep (ts : List Token) : Type 0 where
+  deep_java : IsTooDeep ts → NestTooDeep ts
+  deep_jml : (java : JavaUnit) → Reads ts java → HasDeepSpec ts java → NestTooDeep ts
 
 -- a fault of the text; a token that is not supported, with its place and bytes; that no file has the tokens, with the
 -- place where that shows; that something nests too deep, with its place
@@ -36,8 +49,8 @@ pub record SpellSome (bytes : List ℕ) (P : List Token → Type 0) : Type 0 whe
 abbrev pub IsReason : List ℕ → Reason → Type 0
 IsReason bytes (Faulty fault) = IsFirstFault bytes fault
 IsReason bytes (Unsupported at what) = SpellSome bytes (λ ts. IsUnsupported ts at what)
-IsReason bytes (NoFile at) = SpellSome bytes IsNoFile × (at ≤ length bytes)
-IsReason bytes (TooDeep at) = SpellSome bytes IsTooDeep × (at ≤ length bytes)
+IsReason bytes (NoFile at) = SpellSome bytes LackFile × (at ≤ length bytes)
+IsReason bytes (TooDeep at) = SpellSome bytes NestTooDeep × (at ≤ length bytes)
 
 -- the same reason, of the last two at any place
 pub data SameReason : Reason → Reason → Type 0 where
