@@ -8,12 +8,12 @@ ghost use Rattle.jd_syntax.specs.JavaTrees as java;
 ghost use Rattle.jd_jcalls.specs.Handlers.{java_handler_view};
 ghost use Rattle.jd_java_values.specs.Parts as plain;
 ghost use Rattle.jd_java_values.specs.Values as values;
-ghost use Rattle.jd_java_values.specs.Views.{Gives, backwards, in_order, parts_view, value_view};
+ghost use Rattle.jd_java_values.specs.Views.{Gives, backwards, boxed_view, in_order, parts_view, value_view};
 ghost use Rattle.jd_java_statements.specs.declared.action.Action.{Action};
 ghost use Rattle.jd_java_statements.specs.Meaning as plain_meaning;
 ghost use Rattle.jd_java_statements.specs.Meaning.{meaning};
 
-use crate::forms::{if_else, if_then};
+use crate::forms::given;
 use crate::ordered::{ordered_statements, some_ordered_statements};
 use jd_base::{NoMemory, both};
 use jd_grammar::NodeParts;
@@ -26,14 +26,15 @@ use jd_syntax::{Expr, Handler, Identifier, Stmt, StmtForm};
 use std::alloc::Global;
 
 // `if (e) s`, or with `else s` where there is one.
-fn chosen(alloc: Global, at: u32, parts: (Expr, Stmt, Option<Stmt>)) -> Result<Value, NoMemory>
-    ensures { Gives value_view result (values.Statement (plain_meaning.if_statement at (java_view parts.0) (java_stmt_view parts.1) (option_map java_stmt_view parts.2))) }
+fn chosen(at: u32, parts: (Expr, Box<Stmt>, Option<Box<Stmt>>)) -> Stmt
+    ensures { java_stmt_view result ≡ plain_meaning.if_statement at (java_view parts.0) (boxed_view parts.1) (option_map boxed_view parts.2) }
 {
     let (condition, then, or_else) = parts;
-    match or_else {
-        None => if_then(alloc, at, condition, then),
-        Some(or_else) => if_else(alloc, at, condition, then, or_else),
-    }
+    let form = match or_else {
+        None => StmtForm::If(condition, then),
+        Some(or_else) => StmtForm::IfElse(condition, then, or_else),
+    };
+    Stmt { at, form }
 }
 
 /// `if (e) s`, or with `else s`.
@@ -44,10 +45,13 @@ pub fn if_statement(
 ) -> Result<Value, NoMemory>
     ensures { Gives value_view result (meaning Action.If (map lexeme_view tokens.now) (parts_view parts.old)) }
 {
-    let condition = expression(taken(&mut parts.first));
-    let then = statement(taken(&mut parts.second));
+    let then = statement(alloc, taken(&mut parts.second))?;
     let or_else = some_statement(taken(&mut parts.third));
-    chosen(alloc, place_of(0, tokens), (condition, then, or_else))
+    let condition = expression(taken(&mut parts.first));
+    given(
+        alloc,
+        chosen(place_of(0, tokens), (condition, then, or_else)),
+    )
 }
 
 fn try_statement(
@@ -87,7 +91,10 @@ pub fn try_block(
 {
     let statements = ordered_statements(alloc, taken(&mut parts.first));
     let rescue = taken(&mut parts.second);
-    Ok(Value::Statement(rescued(alloc, place_of(0, tokens), statements, rescue)))
+    given(
+        alloc,
+        rescued(alloc, place_of(0, tokens), statements, rescue),
+    )
 }
 
 #[tactic(auto, using(jd_java_values::proofs::Backwards::others_first))]

@@ -12,7 +12,7 @@ ghost use Rattle.jd_java_statements.specs.declared.action.Action.{Action};
 ghost use Rattle.jd_java_statements.specs.Meaning as plain_meaning;
 ghost use Rattle.jd_java_statements.specs.Meaning.{meaning};
 
-use crate::forms::{for_each, labelled, while_true};
+use crate::forms::{begins, given, labelled};
 use crate::ordered::ordered_expressions;
 use jd_base::{NoMemory, copy_bytes};
 use jd_grammar::NodeParts;
@@ -29,9 +29,9 @@ pub fn while_loop(
 ) -> Result<Value, NoMemory>
     ensures { Gives value_view result (meaning Action.While (map lexeme_view tokens.now) (parts_view parts.old)) }
 {
+    let body = statement(alloc, taken(&mut parts.second))?;
     let condition = expression(taken(&mut parts.first));
-    let body = statement(taken(&mut parts.second));
-    while_true(alloc, place_of(0, tokens), condition, body)
+    begins(alloc, tokens, StmtForm::While(None, condition, body))
 }
 
 /// The start of a `for`: `e, ..`, or nothing; the last comes first.
@@ -61,7 +61,6 @@ fn loop_head(alloc: Global, parts: &mut NodeParts<Value>) -> (ForStart, Option<E
     ensures start { for_start_view result.0 ≡ plain.start_of (parts_view parts.old).first }
     ensures condition { option_map java_view result.1 ≡ plain.some_expression (parts_view parts.old).second }
     ensures update { in_order java_view result.2 ≡ plain.expressions_of (parts_view parts.old).third }
-    ensures rest { parts.new.fourth ≡ parts.old.fourth }
 {
     let start = start(alloc, taken(&mut parts.first));
     let condition = some_expression(taken(&mut parts.second));
@@ -77,9 +76,13 @@ pub fn for_loop(
 ) -> Result<Value, NoMemory>
     ensures { Gives value_view result (meaning Action.For (map lexeme_view tokens.now) (parts_view parts.old)) }
 {
-    let head = loop_head(alloc, parts);
-    let body = statement(taken(&mut parts.fourth));
-    for_each(alloc, place_of(0, tokens), head, body)
+    let body = statement(alloc, taken(&mut parts.fourth))?;
+    let (start, condition, update) = loop_head(alloc, parts);
+    begins(
+        alloc,
+        tokens,
+        StmtForm::For(None, start, condition, update, body),
+    )
 }
 
 /// The text of the first token.
@@ -97,12 +100,8 @@ pub fn label(
 ) -> Result<Value, NoMemory>
     ensures { Gives value_view result (meaning Action.Label (map lexeme_view tokens.now) (parts_view parts.old)) }
 {
-    labelled(
-        alloc,
-        place_of(0, tokens),
-        text_at(alloc, tokens),
-        statement(taken(&mut parts.first)),
-    )
+    let body = statement(alloc, taken(&mut parts.first))?;
+    labelled(alloc, place_of(0, tokens), text_at(alloc, tokens), body)
 }
 
 // The run of JML that the first token is; its clauses are read later.
@@ -157,6 +156,7 @@ pub fn annotated(
 ) -> Result<Value, NoMemory>
     ensures { Gives value_view result (meaning Action.Annotated (map lexeme_view tokens.now) (parts_view parts.old)) }
 {
+    let statement = statement(alloc, taken(&mut parts.first))?;
     let block = loop_block(alloc, tokens);
-    Ok(Value::Statement(preceded(block, statement(taken(&mut parts.first)))))
+    given(alloc, preceded(block, Box::into_inner(statement)))
 }

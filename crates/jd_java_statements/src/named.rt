@@ -13,7 +13,7 @@ ghost use Rattle.jd_java_statements.specs.declared.action.Action.{Action};
 ghost use Rattle.jd_java_statements.specs.Meaning as plain_meaning;
 ghost use Rattle.jd_java_statements.specs.Meaning.{meaning};
 
-use crate::forms::{labelled, local};
+use crate::forms::{given, labelled, local};
 use crate::loops::{evaluated, text_at};
 use crate::variables::{declared, ordered_variables};
 use jd_base::{NoMemory, both};
@@ -54,13 +54,17 @@ fn effects(
     (effect, further)
 }
 
-fn evaluating(at: u32, effects: (Result<Expr, NoMemory>, Vec<Expr>)) -> Result<Value, NoMemory>
+fn evaluating(
+    alloc: Global,
+    at: u32,
+    effects: (Result<Expr, NoMemory>, Vec<Expr>),
+) -> Result<Value, NoMemory>
     ensures { (e : JavaExpr) → Gives java_view effects.0 e → Gives value_view result (values.Statement (java.Evaluate at e)) }
 {
     let (effect, further) = effects;
     discard(further);
     let form = StmtForm::Evaluate(effect?);
-    Ok(Value::Statement(Stmt { at, form }))
+    given(alloc, Stmt { at, form })
 }
 
 /// A statement that begins with a name: labelled, of variables of a class, or an expression.
@@ -75,11 +79,12 @@ pub fn named_statement(
     match behind {
         Value::Statement(body) => labelled(alloc, at, text_at(alloc, tokens), body),
         Value::Variables(variables) => local(
+            alloc,
             at,
             class_at(alloc, tokens),
             Ok(ordered_variables(variables)),
         ),
-        other => evaluating(at, effects(alloc, tokens, other)),
+        other => evaluating(alloc, at, effects(alloc, tokens, other)),
     }
 }
 

@@ -12,6 +12,7 @@ ghost use Rattle.jd_java_values.specs.Views.{Gives, backwards, parts_view, value
 ghost use Rattle.jd_java_statements.specs.declared.action.Action.{Action};
 ghost use Rattle.jd_java_statements.specs.Meaning.{meaning};
 
+use crate::forms::{begins, given};
 use crate::ordered::{ordered_expressions, ordered_statements};
 use jd_base::NoMemory;
 use jd_grammar::NodeParts;
@@ -30,18 +31,15 @@ pub fn block(
 ) -> Result<Value, NoMemory>
     ensures { Gives value_view result (meaning Action.Block (map lexeme_view tokens.now) (parts_view parts.old)) }
 {
-    let at = place_of(0, tokens);
-    let form = StmtForm::Block(ordered_statements(alloc, taken(&mut parts.first)));
-    Ok(Value::Statement(Stmt { at, form }))
+    let statements = ordered_statements(alloc, taken(&mut parts.first));
+    begins(alloc, tokens, StmtForm::Block(statements))
 }
 
 /// `;`
-pub fn empty(tokens: &[Lexeme<'_>]) -> Value
-    ensures { value_view result ≡ Statement (java.Empty (heads.place_of 0 (map lexeme_view tokens.now))) }
+pub fn empty(alloc: Global, tokens: &[Lexeme<'_>]) -> Result<Value, NoMemory>
+    ensures { Gives value_view result (Statement (java.Empty (heads.place_of 0 (map lexeme_view tokens.now)))) }
 {
-    let at = place_of(0, tokens);
-    let form = StmtForm::Empty;
-    Value::Statement(Stmt { at, form })
+    begins(alloc, tokens, StmtForm::Empty)
 }
 
 fn place(expression: &Expr) -> u32
@@ -59,46 +57,58 @@ fn evaluated(expression: Expr) -> Stmt
 }
 
 /// `e;`
-pub fn evaluate(parts: &mut NodeParts<Value>) -> Result<Value, NoMemory>
+pub fn evaluate(alloc: Global, parts: &mut NodeParts<Value>) -> Result<Value, NoMemory>
     ensures { Gives value_view result (meaning Action.Evaluate [] (parts_view parts.old)) }
 {
-    Ok(Value::Statement(evaluated(expression(taken(&mut parts.first)))))
+    given(alloc, evaluated(expression(taken(&mut parts.first))))
 }
 
 /// `break;` or `break l;`
-pub fn break_off(tokens: &[Lexeme<'_>], parts: &mut NodeParts<Value>) -> Result<Value, NoMemory>
+pub fn break_off(
+    alloc: Global,
+    tokens: &[Lexeme<'_>],
+    parts: &mut NodeParts<Value>,
+) -> Result<Value, NoMemory>
     ensures { Gives value_view result (meaning Action.Break (map lexeme_view tokens.now) (parts_view parts.old)) }
 {
-    let at = place_of(0, tokens);
-    let form = StmtForm::Break(some_name(taken(&mut parts.first)));
-    Ok(Value::Statement(Stmt { at, form }))
+    let label = some_name(taken(&mut parts.first));
+    begins(alloc, tokens, StmtForm::Break(label))
 }
 
 /// `continue;` or `continue l;`
-pub fn go_on(tokens: &[Lexeme<'_>], parts: &mut NodeParts<Value>) -> Result<Value, NoMemory>
+pub fn go_on(
+    alloc: Global,
+    tokens: &[Lexeme<'_>],
+    parts: &mut NodeParts<Value>,
+) -> Result<Value, NoMemory>
     ensures { Gives value_view result (meaning Action.Continue (map lexeme_view tokens.now) (parts_view parts.old)) }
 {
-    let at = place_of(0, tokens);
-    let form = StmtForm::Continue(some_name(taken(&mut parts.first)));
-    Ok(Value::Statement(Stmt { at, form }))
+    let label = some_name(taken(&mut parts.first));
+    begins(alloc, tokens, StmtForm::Continue(label))
 }
 
 /// `return;` or `return e;`
-pub fn give_back(tokens: &[Lexeme<'_>], parts: &mut NodeParts<Value>) -> Result<Value, NoMemory>
+pub fn give_back(
+    alloc: Global,
+    tokens: &[Lexeme<'_>],
+    parts: &mut NodeParts<Value>,
+) -> Result<Value, NoMemory>
     ensures { Gives value_view result (meaning Action.Return (map lexeme_view tokens.now) (parts_view parts.old)) }
 {
-    let at = place_of(0, tokens);
-    let form = StmtForm::Return(some_expression(taken(&mut parts.first)));
-    Ok(Value::Statement(Stmt { at, form }))
+    let result = some_expression(taken(&mut parts.first));
+    begins(alloc, tokens, StmtForm::Return(result))
 }
 
 /// `throw e;`
-pub fn throw(tokens: &[Lexeme<'_>], parts: &mut NodeParts<Value>) -> Result<Value, NoMemory>
+pub fn throw(
+    alloc: Global,
+    tokens: &[Lexeme<'_>],
+    parts: &mut NodeParts<Value>,
+) -> Result<Value, NoMemory>
     ensures { Gives value_view result (meaning Action.Throw (map lexeme_view tokens.now) (parts_view parts.old)) }
 {
-    let at = place_of(0, tokens);
-    let form = StmtForm::Throw(expression(taken(&mut parts.first)));
-    Ok(Value::Statement(Stmt { at, form }))
+    let thrown = expression(taken(&mut parts.first));
+    begins(alloc, tokens, StmtForm::Throw(thrown))
 }
 
 fn listed(statements: Result<Vec<Stmt>, NoMemory>) -> Result<Value, NoMemory>
@@ -118,8 +128,8 @@ fn preceded(alloc: Global, statement: Stmt, behind: Value) -> Result<Vec<Stmt>, 
 pub fn several_statements(alloc: Global, parts: &mut NodeParts<Value>) -> Result<Value, NoMemory>
     ensures { Gives value_view result (meaning Action.Statements [] (parts_view parts.old)) }
 {
-    let head = statement(taken(&mut parts.first));
-    listed(preceded(alloc, head, taken(&mut parts.second)))
+    let head = statement(alloc, taken(&mut parts.first))?;
+    listed(preceded(alloc, Box::into_inner(head), taken(&mut parts.second)))
 }
 
 fn parent_call(alloc: Global, at: u32, arguments: Value) -> Stmt

@@ -97,7 +97,7 @@ pub fn final_local(
 {
     let variables = last_three(alloc, parts);
     let written = typed(taken(&mut parts.first));
-    local(place_of(0, tokens), Ok(written), variables)
+    local(alloc, place_of(0, tokens), Ok(written), variables)
 }
 
 /// `int x = e, ..;` or `int[] x = e, ..;`
@@ -110,7 +110,7 @@ pub fn int_local(
 {
     let variables = last_three(alloc, parts);
     let written = int_at(tokens, taken(&mut parts.first));
-    local(place_of(0, tokens), Ok(written), variables)
+    local(alloc, place_of(0, tokens), Ok(written), variables)
 }
 
 /// `boolean x = e, ..;`
@@ -122,6 +122,7 @@ pub fn boolean_local(
     ensures { Gives value_view result (meaning Action.BooleanLocal (map lexeme_view tokens.now) (parts_view parts.old)) }
 {
     local(
+        alloc,
         place_of(0, tokens),
         Ok(type_at(tokens, JavaType::Boolean)),
         ordered_three(alloc, parts),

@@ -2,12 +2,14 @@
 use Rattle.std.specs.Prelude.{◌≡◌, List, map, option_map, reverse, IfOk}
 use Rattle.std.specs.declared.result.Result.{Result}
 use Rattle.std.specs.declared.vec.Vec.{Vec}
+use Rattle.std.specs.declared.boxed.Box.{Box}
 use Rattle.std.specs.declared.alloc.Global.{Global}
 use Rattle.jd_base.specs.declared.memory.NoMemory.{NoMemory}
 use Rattle.jd_grammar.specs.declared.fold.NodeParts.{NodeParts}
 use Rattle.jd_syntax.specs.JavaTypes.{identifier_view, written_view}
 use Rattle.jd_syntax.specs.SpecTrees.{spec_block_view}
-use Rattle.jd_syntax.specs.JavaTrees.{java_view, declarator_view, for_start_view, java_stmt_view, result_view, parameter_view, member_view, class_view}
+use Rattle.jd_syntax.specs.declared.java.Stmt.{Stmt}
+use Rattle.jd_syntax.specs.JavaTrees.{JavaStmt, java_view, declarator_view, for_start_view, java_stmt_view, result_view, parameter_view, member_view, class_view}
 use Rattle.jd_jcalls.specs.Handlers.{java_handler_view}
 use Rattle.jd_java_values.specs.declared.values.Suffix.{Suffix}
 use Rattle.jd_java_values.specs.declared.values.Suffix.TheVariants as suffixes
@@ -25,6 +27,10 @@ backwards view xs = reverse (map view xs.items)
 
 abbrev pub in_order : {A B : Type 0} → (A → B) → Vec A Global → List B
 in_order view xs = map view xs.items
+
+-- a statement in a box
+abbrev pub boxed_view : Box Stmt Global → JavaStmt
+boxed_view s = java_stmt_view s.value
 
 abbrev pub suffix_view : Suffix → PlainSuffix
 suffix_view (suffixes.Infix o e) = Infix o (java_view e)
@@ -58,7 +64,7 @@ value_view (values.BehindName args ss es) = BehindName (option_map (in_order jav
 value_view (values.Named x) = Named (identifier_view x)
 value_view (values.Typed t) = Typed (written_view t)
 value_view values.Dimension = Dimension
-value_view (values.Statement s) = Statement (java_stmt_view s)
+value_view (values.Statement s) = Statement (boxed_view s)
 value_view (values.Statements ss) = Statements (backwards java_stmt_view ss)
 value_view (values.Variables ds) = Variables (backwards declarator_view ds)
 value_view (values.LoopStart s) = LoopStart (for_start_view s)

@@ -7,7 +7,7 @@ mod parts;
 mod values;
 
 pub use heads::{class_at, identifier_at, int_type, type_at};
-pub use lists::{all_of, alone, appended, ended, in_order, last_apart, put_first, with};
+pub use lists::{all_of, alone, appended, boxed, ended, in_order, last_apart, put_first, with};
 pub use parts::{
     arguments, body, classes, declared, discard, expression, expressions, handlers, is_dimension,
     modifiers, name, names, number, parameters, some_expression, some_name, some_statement,

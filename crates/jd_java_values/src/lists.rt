@@ -1,9 +1,16 @@
-//! Lists of any items, as those whose last part comes first.
+//! Lists of any items, as those whose last part comes first, and boxes.
 
 ghost use Rattle.std.specs.Prelude.{◌≡◌, ◌++◌, ◌∷◌, [], IfOk, MatchOption, OnOk, reverse};
 
 use jd_base::{NoMemory, both};
 use std::alloc::Global;
+
+/// The item in a box.
+pub fn boxed<T: Drop>(alloc: Global, item: T) -> Result<Box<T>, NoMemory>
+    ensures { IfOk result (λ b. b.value ≡ item) }
+{
+    Ok(Box::new(alloc, item)?)
+}
 
 /// The list with one more item.
 pub fn with<T: Drop>(items: Vec<T>, item: T) -> Result<Vec<T>, NoMemory>

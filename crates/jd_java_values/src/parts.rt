@@ -3,12 +3,14 @@
 ghost use Rattle.std.specs.Prelude.{◌≡◌, option_map};
 ghost use Rattle.jd_syntax.specs.JavaTypes.{identifier_view, written_view};
 ghost use Rattle.jd_syntax.specs.SpecTrees.{spec_block_view};
-ghost use Rattle.jd_syntax.specs.JavaTrees.{class_view, declarator_view, java_stmt_view, java_view, member_view, parameter_view};
+ghost use Rattle.jd_syntax.specs.JavaTrees.{Empty, class_view, declarator_view, java_stmt_view, java_view, member_view, parameter_view};
 ghost use Rattle.jd_jcalls.specs.Handlers.{java_handler_view};
 ghost use Rattle.jd_java_values.specs.Parts as plain;
-ghost use Rattle.jd_java_values.specs.Views.{backwards, declared_view, suffix_view, value_view};
+ghost use Rattle.jd_java_values.specs.Views.{Gives, backwards, boxed_view, declared_view, suffix_view, value_view};
 
+use crate::lists::boxed;
 use crate::values::{Declared, Suffix, Value};
+use jd_base::NoMemory;
 use jd_syntax::{
     ClassDecl, Declarator, Expr, ExprForm, Handler, Identifier, JavaType, Member, Parameter,
     SpecBlock, Stmt, StmtForm, WrittenType,
@@ -152,25 +154,35 @@ pub fn is_dimension(value: Value) -> bool
     }
 }
 
+// `;` where no statement stands.
+fn no_statement(alloc: Global) -> Result<Box<Stmt>, NoMemory>
+    ensures { Gives boxed_view result (Empty 0) }
+{
+    boxed(
+        alloc,
+        Stmt {
+            at: 0,
+            form: StmtForm::Empty,
+        },
+    )
+}
+
 /// The statement that it is.
-pub fn statement(value: Value) -> Stmt
-    ensures { java_stmt_view result ≡ plain.statement_of (value_view value) }
+pub fn statement(alloc: Global, value: Value) -> Result<Box<Stmt>, NoMemory>
+    ensures { Gives boxed_view result (plain.statement_of (value_view value)) }
 {
     match value {
-        Value::Statement(statement) => statement,
+        Value::Statement(statement) => Ok(statement),
         other => {
             discard(other);
-            Stmt {
-                at: 0,
-                form: StmtForm::Empty,
-            }
+            no_statement(alloc)
         }
     }
 }
 
 /// The statement, if it is one.
-pub fn some_statement(value: Value) -> Option<Stmt>
-    ensures { option_map java_stmt_view result ≡ plain.some_statement (value_view value) }
+pub fn some_statement(value: Value) -> Option<Box<Stmt>>
+    ensures { option_map boxed_view result ≡ plain.some_statement (value_view value) }
 {
     match value {
         Value::Statement(statement) => Some(statement),

@@ -72,7 +72,7 @@ pub enum Value {
     /// `[]`
     Dimension,
     /// A statement.
-    Statement(Stmt),
+    Statement(Box<Stmt>),
     /// Statements.
     Statements(Vec<Stmt>),
     /// Local variables.
