@@ -4,7 +4,9 @@
 mod fill;
 mod laws;
 mod parse;
+mod print;
 
 pub use fill::fill_specs;
 pub use laws::{one_answer, one_filling};
 pub use parse::parse_spec;
+pub use print::print_spec;
