@@ -1,6 +1,7 @@
-//! Rows of JML: the clauses that a text has at a place, or why it has none.
+//! Rows of JML: the clauses that a text has at a place, or why it has none, and how they are printed.
 #![tactic(auto)]
 
+mod printing;
 mod rows;
 
 use crate::rows::tell;

@@ -1,5 +1,6 @@
 //! A line, and what it asks.
 
+use crate::printing::tell_printed;
 use jd_jmlparse::parse_spec;
 use jd_jparse::ParseRefusal;
 use jd_lex::{Token, tokens};
@@ -8,12 +9,12 @@ use row_text::{Answer, first_word, unescaped};
 use std::alloc::{AllocError, Global};
 
 /// How long a text may be.
-const GREATEST_LENGTH: usize = 1048576;
+pub(crate) const GREATEST_LENGTH: usize = 1048576;
 
 /// How many bytes open the comment that a text stands in.
 const OPENING: i128 = 3;
 
-fn place_of(word: &str) -> Option<SpecPlace> {
+pub(crate) fn place_of(word: &str) -> Option<SpecPlace> {
     match word {
         "field" => Some(SpecPlace::Field),
         "method" => Some(SpecPlace::Method),
@@ -30,7 +31,7 @@ fn put_at(answer: &mut Answer, refusal: &str, at: u32) {
     answer.put_number(i128::from(at) - OPENING);
 }
 
-fn put_refusal(answer: &mut Answer, refusal: &ParseRefusal) {
+pub(crate) fn put_refusal(answer: &mut Answer, refusal: &ParseRefusal) {
     match refusal {
         ParseRefusal::Syntax { at } => put_at(answer, "Syntax ", *at),
         ParseRefusal::Unsupported { at, .. } => put_at(answer, "Unsupported ", *at),
@@ -60,14 +61,18 @@ fn tell_text(answer: &mut Answer, alloc: Global, place: SpecPlace, text: &[u8]) 
 }
 
 // The bytes of a text in a comment, where its escapes are ones.
-fn bytes_of(alloc: Global, text: &str) -> Result<Option<Vec<u8>>, AllocError> {
+pub(crate) fn bytes_of(alloc: Global, text: &str) -> Result<Option<Vec<u8>>, AllocError> {
     let text = format!(in alloc; "/*@{text}*/")?;
     unescaped(alloc, text.as_str())
 }
 
 /// Answers a line, which is the name of a place and a text: how many clauses and words the text has there, or why it has none.
+/// Behind `print` the clauses are printed.
 pub(crate) fn tell(answer: &mut Answer, alloc: Global, line: &str) {
     let (word, text) = first_word(line);
+    if word == "print" {
+        return tell_printed(answer, alloc, text);
+    }
     let Some(place) = place_of(word) else {
         return answer.put("no place");
     };
