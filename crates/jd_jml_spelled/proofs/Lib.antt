@@ -1,3 +1,4 @@
+mod Clauses
 mod Pairs
 mod Texts
 mod Spelling
