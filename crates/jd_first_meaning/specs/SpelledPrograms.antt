@@ -55,7 +55,7 @@ pub record HasClasses (p : model.Program) : Type 0 where
   pub no_field : (c f : ℕ) → p.has_field c f ≡ false
   pub no_lookup : (c m : ℕ) → p.lookup c m ≡ None
 
--- ---- the conditions, of integers (JML Reference Manual, 9.9.1, 9.9.2 and 12.4.1; JLS 15.20.1, 15.21.1 and 15.23)
+-- ---- the conditions, of integers (JML Reference Manual, 9.9.2, 9.9.3 and 12.4.1; JLS 15.20.1, 15.21.1 and 15.23)
 
 abbrev pub compare : Comparison → ℤ → ℤ → Bool
 compare Equal x y = int_same x y

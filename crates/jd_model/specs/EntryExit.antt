@@ -103,7 +103,7 @@ module _ (g : Setting) where
   abbrev pub thrown_moment : Heap → Reference → List Value → Heap → Reference → Moment
   thrown_moment h r vs k x = record { before = h; after = k; this = r; arguments = vs; result = RefValue Null; thrown = x }
 
-  -- the state in which a body starts: its heap, its receiver and its arguments
+  -- what is asked of the heap, the receiver and the arguments where a body starts, and at a call too (exactly is false there)
   pub record EntryAs (exactly : Bool) (c : Contract) (class : ℕ) (h : Heap) (r : Reference) (vs : List Value) : Type 0 where
     pub well_formed : IsWellFormed g.program h
     pub receiver : Receiver exactly c.role class h r

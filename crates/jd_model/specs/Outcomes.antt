@@ -32,7 +32,7 @@ abbrev pub given : Sort → Option Value → Value
 given k None = default k
 given k (Some v) = v
 
--- back in the caller's variables, with the heap of the callee; a result has its sort
+-- back in the caller's variables, with the heap of the callee; a result has its sort; a body that a `break` leaves has no end
 abbrev pub back_in : State → Sort → Outcome (Unit {0}) → Outcome Value
 back_in s k (Normal u t) = Normal (default k) (with_heap s (heap_of t))
 back_in s k (Broke l t) = NotEnded

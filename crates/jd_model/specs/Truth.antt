@@ -23,7 +23,7 @@ IfEnds (Normal u t) P = P t
 IfEnds (Stopped t) P = P t
 IfEnds o P = Unit {0}
 
--- what a diamond asks of a run's end
+-- what a diamond asks of a run's end; of one by a length that is none, nothing (no resolved body has it, and `Exit` refuses it)
 abbrev pub EndsIn : {A : Type 0} → Outcome A → (State → Type 0) → Type 0
 EndsIn (Normal u t) P = P t
 EndsIn (Stopped t) P = P t
