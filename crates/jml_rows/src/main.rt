@@ -1,6 +1,8 @@
-//! Rows of JML: the clauses that a text has at a place, or why it has none, and how they are printed.
+//! Rows of JML: the clauses that a text has at a place, or why it has none, how they are printed, and the clauses of whole files.
 #![tactic(auto)]
 
+mod blocks;
+mod files;
 mod printing;
 mod rows;
 

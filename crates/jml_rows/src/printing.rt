@@ -1,6 +1,6 @@
 //! Rows that print clauses, and read what is printed.
 
-use crate::rows::{GREATEST_LENGTH, bytes_of, place_of, put_refusal};
+use crate::rows::{GREATEST_LENGTH, OPENING, bytes_of, place_of, put_refusal};
 use jd_jmlparse::{parse_spec, print_spec};
 use jd_lex::{Token, tokens};
 use jd_syntax::{SpecClause, SpecPlace};
@@ -49,7 +49,7 @@ fn tell_clauses(answer: &mut Answer, alloc: Global, place: SpecPlace, clauses: &
 fn tell_tokens(answer: &mut Answer, alloc: Global, place: SpecPlace, found: &[Token]) {
     match &parse_spec(alloc, place, found) {
         Ok(clauses) => tell_clauses(answer, alloc, place, clauses),
-        Err(refusal) => put_refusal(answer, refusal),
+        Err(refusal) => put_refusal(answer, OPENING, refusal),
     }
 }
 

@@ -1,5 +1,6 @@
 //! A line, and what it asks.
 
+use crate::files::tell_file;
 use crate::printing::tell_printed;
 use jd_jmlparse::parse_spec;
 use jd_jparse::ParseRefusal;
@@ -12,7 +13,7 @@ use std::alloc::{AllocError, Global};
 pub(crate) const GREATEST_LENGTH: usize = 1048576;
 
 /// How many bytes open the comment that a text stands in.
-const OPENING: i128 = 3;
+pub(crate) const OPENING: u32 = 3;
 
 pub(crate) fn place_of(word: &str) -> Option<SpecPlace> {
     match word {
@@ -25,17 +26,17 @@ pub(crate) fn place_of(word: &str) -> Option<SpecPlace> {
     }
 }
 
-// Places are counted from the beginning of the text.
-fn put_at(answer: &mut Answer, refusal: &str, at: u32) {
+fn put_at(answer: &mut Answer, refusal: &str, start: u32, at: u32) {
     answer.put(refusal);
-    answer.put_number(i128::from(at) - OPENING);
+    answer.put_number(i128::from(at) - i128::from(start));
 }
 
-pub(crate) fn put_refusal(answer: &mut Answer, refusal: &ParseRefusal) {
+/// A refusal, with its place counted from where the text starts.
+pub(crate) fn put_refusal(answer: &mut Answer, start: u32, refusal: &ParseRefusal) {
     match refusal {
-        ParseRefusal::Syntax { at } => put_at(answer, "Syntax ", *at),
-        ParseRefusal::Unsupported { at, .. } => put_at(answer, "Unsupported ", *at),
-        ParseRefusal::TooDeep { at } => put_at(answer, "TooDeep ", *at),
+        ParseRefusal::Syntax { at } => put_at(answer, "Syntax ", start, *at),
+        ParseRefusal::Unsupported { at, .. } => put_at(answer, "Unsupported ", start, *at),
+        ParseRefusal::TooDeep { at } => put_at(answer, "TooDeep ", start, *at),
         ParseRefusal::NoMemory => answer.lack_memory(),
     }
 }
@@ -46,7 +47,7 @@ fn tell_tokens(answer: &mut Answer, alloc: Global, place: SpecPlace, tokens: &[T
             answer.put("ok ");
             answer.put_number(clauses.len() as i128);
         }
-        Err(refusal) => put_refusal(answer, refusal),
+        Err(refusal) => put_refusal(answer, OPENING, refusal),
     }
 }
 
@@ -66,12 +67,15 @@ pub(crate) fn bytes_of(alloc: Global, text: &str) -> Result<Option<Vec<u8>>, All
     unescaped(alloc, text.as_str())
 }
 
-/// Answers a line, which is the name of a place and a text: how many clauses and words the text has there, or why it has none.
-/// Behind `print` the clauses are printed.
+/// Answers a line, which is the name of a place and a text: how many clauses and words the text has there, or why it has none. Behind
+/// `print` the clauses are printed; behind `fill` the text is a whole file.
 pub(crate) fn tell(answer: &mut Answer, alloc: Global, line: &str) {
     let (word, text) = first_word(line);
     if word == "print" {
         return tell_printed(answer, alloc, text);
+    }
+    if word == "fill" {
+        return tell_file(answer, alloc, text);
     }
     let Some(place) = place_of(word) else {
         return answer.put("no place");
