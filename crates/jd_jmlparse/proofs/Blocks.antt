@@ -1,5 +1,5 @@
 -- What is known after a block.
-use Rattle.std.proofs.Common.{◌≡◌, List, [], ◌∷◌, ◌++◌, Option, Some, None, All, map, refl, sym, ap, subst, ◌∙◌}
+use Rattle.std.proofs.Common.{◌≡◌, List, [], ◌∷◌, ◌++◌, Some, None, All, map, refl, sym, ap, subst, ◌∙◌}
 use Rattle.std.proofs.lemmas.List.{append_assoc}
 use Rattle.std.proofs.lemmas.List.Elements.{All-cons, All-head, All-nil, All-push, All-tail, All-weaker}
 use Rattle.jd_lex.specs.Parts as lexed
@@ -9,7 +9,7 @@ use Rattle.jd_jparse.specs.declared.refusal.ParseRefusal.{ParseRefusal}
 use Rattle.jd_jparse.specs.declared.refusal.ParseRefusal.TheVariants as refusals
 use Rattle.jd_jmlparse.specs.Parses.{Refuses}
 use Rattle.jd_jmlparse.specs.Filled.{AreNotFilled, HasClauses, IsFirstRefused, IsRead, bare_block, block_tokens}
-use Rattle.jd_jmlparse.specs.Filling.{Goes, Knows, refusal_of}
+use Rattle.jd_jmlparse.specs.Filling.{Goes, refusal_of}
 use Rattle.jd_jmlparse.specs.declared.fill.refused.Cause.{Cause}
 
 further : (ts : List lexed.Token) (P : SpecPlace → List lexed.Token → Type 0) (xs ys : List PlainSpecBlock) → IsFirstRefused ts xs P → IsFirstRefused ts (xs ++ ys) P

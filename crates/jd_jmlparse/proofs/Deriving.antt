@@ -1,5 +1,5 @@
 -- Derivations of tokens.
-use Rattle.std.proofs.Common.{◌≡◌, ◌≤◌, ℕ, zero, suc, min, List, [], ◌∷◌, ◌++◌, take, drop, length, map, Bool, true, refl, sym, ap, subst, ◌∙◌, arith}
+use Rattle.std.proofs.Common.{◌≡◌, ◌≤◌, ℕ, zero, suc, min, List, [], ◌∷◌, ◌++◌, take, drop, length, map, true, refl, sym, ap, subst, ◌∙◌, arith}
 use Rattle.std.specs.List.{slice_get}
 use Rattle.std.specs.Option.{option_map_or}
 use Rattle.std.proofs.lemmas.List.{length-map, take-append-drop}
@@ -17,7 +17,7 @@ use Rattle.jd_jml_grammar.specs.Jml.{is_place}
 use Rattle.jd_jml_grammar.specs.Productions.{jml_productions}
 use Rattle.jd_jml_tokens.specs.Lexemes.{PlainLexeme, kinds_of, lexeme_view, lexemes_of}
 use Rattle.jd_jml_tokens.specs.declared.lexeme.Lexeme.{Lexeme}
-use Rattle.jd_jmlparse.specs.Parses.{Derives, IsNoSpec, Shows, Spells, end_of, place_of_token, stops}
+use Rattle.jd_jmlparse.specs.Parses.{Derives, IsNoSpec, Shows, end_of, place_of_token, stops}
 use Rattle.jd_jmlparse.specs.Places.{name_of}
 
 -- tokens have one derivation at most

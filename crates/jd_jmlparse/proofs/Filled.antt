@@ -1,10 +1,10 @@
 -- A unit that was gone over is filled, or its first block that is refused is known.
-use Rattle.std.proofs.Common.{◌≡◌, List, [], Option, Some, None, map, sym, ap, subst, ◌∙◌}
+use Rattle.std.proofs.Common.{◌≡◌, List, [], Some, None, sym, subst}
 use Rattle.std.proofs.lemmas.List.Elements.{All-nil}
 use Rattle.jd_lex.specs.Parts as lexed
 use Rattle.jd_syntax.specs.JavaTrees.{JavaUnit}
 use Rattle.jd_jparse.specs.declared.refusal.ParseRefusal.{ParseRefusal}
-use Rattle.jd_jmlparse.specs.Filled.{Fills, HasClauses, IsNotFilled, bare, bare_block, blocks_of}
+use Rattle.jd_jmlparse.specs.Filled.{Fills, HasClauses, IsNotFilled, bare, blocks_of}
 use Rattle.jd_jmlparse.specs.Filling.{Goes, refusal_of}
 use Rattle.jd_jmlparse.specs.declared.fill.refused.Cause.{Cause}
 use Rattle.jd_jmlparse.proofs.Bare.{same_places}

@@ -7,7 +7,7 @@ use Rattle.jd_syntax.specs.JavaTrees.{JavaUnit}
 use Rattle.jd_syntax.specs.declared.spec.SpecPlace.{SpecPlace}
 use Rattle.jd_jmlparse.specs.Parses.{Reads, IsNoSpec, IsTooDeep}
 use Rattle.jd_jmlparse.specs.OneAnswer.{OneAnswer}
-use Rattle.jd_jmlparse.specs.Filled.{bare_block, bare, blocks_of, block_tokens, HasClauses, Fills, IsRead, IsFirstRefused, HasNoSpec, HasDeepSpec}
+use Rattle.jd_jmlparse.specs.Filled.{bare_block, bare, blocks_of, block_tokens, HasClauses, Fills, IsRead, IsFirstRefused}
 use Rattle.jd_jmlparse.specs.OneFilling.{OneFilling}
 use Rattle.jd_jmlparse.proofs.Bare.{same_places}
 use Rattle.jd_jmlparse.proofs.Blocks.{first_of, rest_of}

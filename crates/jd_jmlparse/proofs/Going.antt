@@ -1,5 +1,5 @@
 -- The relations of the walk.
-use Rattle.std.proofs.Common.{◌≡◌, ℕ, List, [], ◌∷◌, ◌++◌, Option, sym, ap, subst}
+use Rattle.std.proofs.Common.{List, [], ◌++◌, Option, sym, subst}
 use Rattle.std.proofs.lemmas.List.{append-nil, append_assoc}
 use Rattle.jd_lex.specs.Parts as lexed
 use Rattle.jd_syntax.specs.SpecTrees.{PlainSpecBlock}

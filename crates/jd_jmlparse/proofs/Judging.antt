@@ -8,7 +8,7 @@ use Rattle.jd_jml_attributes.specs.Forms.{PlainForm}
 use Rattle.jd_jml_attributes.specs.Judging.{form_of}
 use Rattle.jd_jml_tokens.specs.Lexemes.{PlainLexeme, lexemes_of}
 use Rattle.jd_jml_trees.specs.Meaning.{clauses_of_tree}
-use Rattle.jd_jmlparse.specs.Parses.{Derives, IsNoSpec, IsTooDeep, Reads, Shows, Spells, asks, end_of, told}
+use Rattle.jd_jmlparse.specs.Parses.{Derives, IsNoSpec, IsTooDeep, Reads, Shows, asks, end_of, told}
 use Rattle.jd_jmlparse.proofs.Deriving.{OneDerivation, one_tree}
 
 pub not_both : {A : Type 0} (o : Option A) (a : A) → o ≡ None → o ≡ Some a → ⊥

@@ -16,7 +16,7 @@ use Rattle.jd_syntax.specs.JavaTrees as trees
 use Rattle.jd_syntax.specs.SpecTrees.{PlainSpecBlock, spec_block_view}
 use Rattle.jd_jcalls.specs.Handlers.{java_handler_view}
 use Rattle.jd_lex.specs.Parts as lexed
-use Rattle.jd_jmlparse.specs.Filled.{bare_block, bare_handlers, bare_stmt, bare_stmts, stmt_blocks}
+use Rattle.jd_jmlparse.specs.Filled.{bare_stmt, stmt_blocks}
 use Rattle.jd_jmlparse.specs.Filling.{Goes, form_view}
 use Rattle.jd_jmlparse.specs.declared.fill.refused.Cause.{Cause}
 

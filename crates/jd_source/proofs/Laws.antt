@@ -3,7 +3,7 @@ use Rattle.std.proofs.Common.{◌≡◌, ℕ, List, subst}
 use Rattle.jd_lex.specs.Parts.{Fault, Token}
 use Rattle.jd_lex.specs.Lexing.{Spells, HasFault, IsFirstFault}
 use Rattle.jd_syntax.specs.JavaTrees.{JavaUnit}
-use Rattle.jd_jparse.specs.Parses.{Reads, IsUnsupported, IsNoFile, IsTooDeep}
+use Rattle.jd_jparse.specs.Parses.{Reads, IsUnsupported}
 use Rattle.jd_jparse.specs.OneAnswer.{OneAnswer}
 use Rattle.jd_jmlparse.specs.OneFilling.{OneFilling}
 use Rattle.jd_source.specs.Laws.{OneSource}

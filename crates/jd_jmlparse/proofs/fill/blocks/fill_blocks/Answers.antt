@@ -1,4 +1,4 @@
-use Rattle.std.proofs.Common.{◌≡◌, ◌<◌, [], ◌∷◌, length, map, refl, subst, sym, ◌∙◌}
+use Rattle.std.proofs.Common.{◌<◌, [], ◌∷◌, map, refl, subst, sym, ◌∙◌}
 use Rattle.std.proofs.lemmas.List.{length-set}
 use Rattle.jd_syntax.specs.SpecTrees.{spec_block_view}
 use Rattle.jd_jmlparse.specs.Filled.{bare_block}

@@ -4,7 +4,6 @@ use Rattle.jd_lex.specs.Parts as lexed
 use Rattle.jd_syntax.specs.SpecTrees.{clause_view, spec_block_view}
 use Rattle.jd_jmlparse.specs.Filled.{tokens_from}
 use Rattle.jd_jmlparse.specs.Parses.{Reads, Refuses}
-use Rattle.jd_jmlparse.specs.Filling.{refusal_of}
 use Rattle.jd_jmlparse.proofs.Blocks.{reads, refuses}
 use Rattle.jd_jmlparse.proofs.fill.blocks.read_block.Goals as goal
 

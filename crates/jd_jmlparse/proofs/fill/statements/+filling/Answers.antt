@@ -1,4 +1,4 @@
-use Rattle.std.proofs.Common.{◌≡◌, ◌∷◌, ◌+◌, ◌<◌, ◌++◌, option_map, map, take, refl, sym, ap, subst, ◌∙◌}
+use Rattle.std.proofs.Common.{◌<◌, option_map, map, refl, sym, ap, subst, ◌∙◌}
 use Rattle.jd_syntax.specs.JavaTrees.{HandlerThen, StmtThen, for_start_view, java_handlers, java_stmt_view, java_stmts, java_view}
 use Rattle.jd_syntax.specs.JavaTrees as trees
 use Rattle.jd_jcalls.specs.Handlers.{java_handler_view}
