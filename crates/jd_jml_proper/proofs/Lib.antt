@@ -1,0 +1,5 @@
+mod Told
+mod Rules
+mod Sums
+mod Table
+mod Trees
