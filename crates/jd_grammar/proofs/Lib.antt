@@ -9,3 +9,4 @@ pub mod Slices
 pub mod Stacks
 pub mod Readers
 pub mod Walks
+mod Seconds

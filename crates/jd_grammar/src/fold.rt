@@ -1,4 +1,4 @@
-ghost use Rattle.std.specs.Prelude.{◌≡◌, ◌≤◌, ◌∷◌, ℕ, List, [], IfOk, OnOk, length, take, drop, reverse, cond};
+ghost use Rattle.std.specs.Prelude.{◌≡◌, ◌≤◌, ◌++◌, ◌∷◌, ℕ, List, [], IfOk, OnOk, length, take, drop, reverse, cond};
 ghost use Rattle.jd_grammar.specs.Nodes.{Evaluates, IsRead, IsReadAs, Rooted, StandFor, leaves, listed, packed_list};
 ghost use Rattle.jd_grammar.specs.Nodes as plain;
 
@@ -87,6 +87,17 @@ pub fn put<V: Drop>(stack: &mut Vec<V>, value: V) -> Result<(), NoMemory>
 {
     stack.push(value)?;
     Ok(())
+}
+
+/// Takes the value below the top one off a stack, if there is one.
+#[tactic(auto, using(crate::proofs::Seconds::second_dropped, crate::proofs::Seconds::none_dropped))]
+pub fn drop_second<V: Drop>(stack: &mut Vec<V>)
+    ensures { reverse stack.new.items ≡ take 1 (reverse stack.old.items) ++ drop 2 (reverse stack.old.items) }
+{
+    let count = stack.len();
+    if count >= 2 {
+        let _second = stack.swap_remove(count - 2);
+    }
 }
 
 // Puts the values of the trees with this preorder onto a stack, from the end.

@@ -7,7 +7,7 @@ mod machine;
 mod reading;
 mod table;
 
-pub use fold::{NodeParts, Nodes, put, take_parts, value_of};
+pub use fold::{NodeParts, Nodes, drop_second, put, take_parts, value_of};
 pub use laws::{one_order, one_tree};
 pub use reading::{Refusal, parse};
 pub use table::{Rule, Symbol, Table};

@@ -2,3 +2,4 @@ mod Fitting
 mod Names
 mod Views
 mod Settled
+mod Levels

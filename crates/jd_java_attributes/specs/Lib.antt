@@ -4,3 +4,4 @@ pub mod Headings
 pub mod Judging
 pub mod Laws
 pub mod Folding
+pub mod Short

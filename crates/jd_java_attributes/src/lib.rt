@@ -8,6 +8,7 @@ mod laws;
 mod nodes;
 mod rows;
 mod rules;
+mod short;
 
 pub use form::{Asked, Form, Kind};
 pub use heading::{Constructor, Declared, Heading};

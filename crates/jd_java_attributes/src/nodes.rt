@@ -12,8 +12,9 @@ use crate::form::{EMPTY, Form, first_of};
 use crate::heading::{Heading, Told, heading_in, told_by};
 use crate::rows::{names_of, row};
 use crate::rules::{form_by, is_blank};
+use crate::short::{keeps_form, tells_nothing};
 use jd_base::NoMemory;
-use jd_grammar::{NodeParts, Nodes, put, take_parts, value_of};
+use jd_grammar::{NodeParts, Nodes, drop_second, put, take_parts, value_of};
 use jd_java_tokens::Lexeme;
 use std::alloc::Global;
 
@@ -71,6 +72,10 @@ impl<'a> Nodes<Lexeme<'a>, Form> for FormNodes {
         if is_blank(row) {
             return put(stack, EMPTY);
         }
+        if keeps_form(row, &*stack) {
+            drop_second(stack);
+            return Ok(());
+        }
         let parts = take_parts(stack, names_of(production), NO_FORMS);
         put(stack, form_by(row, tokens, parts))
     }
@@ -97,6 +102,10 @@ impl<'a> Nodes<Lexeme<'a>, Told<'a>> for HeadingNodes {
         let row = row(production);
         if is_blank(row) {
             return put(stack, Told::Nothing);
+        }
+        if tells_nothing(row, &*stack) {
+            drop_second(stack);
+            return Ok(());
         }
         let parts = take_parts(stack, names_of(production), NOTHING_TOLD);
         let (_, _, rule) = row;

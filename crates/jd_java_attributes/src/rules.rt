@@ -264,8 +264,8 @@ fn is_marked(form: Form) -> bool
     }
 }
 
-// Whether an expression of this form alone has this form.
-fn is_settled(form: Form) -> bool
+/// Whether an expression of this form alone has this form.
+pub(crate) fn is_settled(form: Form) -> bool
     ensures { result ≡ true → IsSettled form }
 {
     if form.adds != 0 {

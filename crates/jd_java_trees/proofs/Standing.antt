@@ -87,15 +87,3 @@ kept p ts stack after k e =
     let left : take 1 stack ++ drop 2 stack ≡ k.first ∷ k.others = ap (λ (xs : List Value). take 1 xs ++ drop 2 xs) k.is in
     let rest : k.first ∷ k.others ≡ k.first ∷ drop (names_of p) stack = sym (ap₂ (λ n (xs : List Value). k.first ∷ drop n xs) k.names k.is) in
     (k.first, sym same, e ∙ (left ∙ rest))
-
-twice : {V : Type 0} (xs : List V) → drop 1 (drop 1 xs) ≡ drop 2 xs
-twice [] = refl
-twice (x ∷ []) = refl
-twice (x ∷ y ∷ xs) = refl
-
-pub second_dropped : {V : Type 0} (xs ys zs ws : List V) (x : V) → x ∷ [] ≡ take 1 xs → ys ≡ drop 1 xs → zs ≡ drop 1 ys → ws ≡ x ∷ zs → ws ≡ take 1 xs ++ drop 2 xs
-second_dropped xs ys zs ws x first one two e =
-    e ∙ ap₂ (λ us vs. us ++ vs) first (two ∙ (ap (drop 1) one ∙ twice xs))
-
-pub none_dropped : {V : Type 0} (xs ys zs : List V) → [] ≡ take 1 xs → ys ≡ drop 1 xs → zs ≡ drop 1 ys → zs ≡ take 1 xs ++ drop 2 xs
-none_dropped xs ys zs first one two = ap₂ (λ us vs. us ++ vs) first (two ∙ (ap (drop 1) one ∙ twice xs))

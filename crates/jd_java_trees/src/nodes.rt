@@ -10,9 +10,9 @@ ghost use Rattle.jd_java_trees.specs.Meaning.{meaning_by, unit_by, unit_of, valu
 ghost use Rattle.jd_syntax.specs.JavaTrees.{unit_view};
 
 use crate::actions::{Action, action_at};
-use crate::short::{drop_second, is_blank, keeps_first};
+use crate::short::{is_blank, keeps_first};
 use jd_base::NoMemory;
-use jd_grammar::{NodeParts, Nodes, put, take_parts, value_of};
+use jd_grammar::{NodeParts, Nodes, drop_second, put, take_parts, value_of};
 use jd_java_attributes::names_of;
 use jd_java_expressions::act as act_on_expression;
 use jd_java_members::act as act_on_member;
@@ -84,7 +84,8 @@ impl<'a> Nodes<Lexeme<'a>, Value> for TreeNodes {
             return put(stack, Value::Suffixes(Vec::new(alloc)));
         }
         if keeps_first(production, &*stack) {
-            return drop_second(stack);
+            drop_second(stack);
+            return Ok(());
         }
         let value = made(alloc, production, tokens, stack)?;
         put(stack, value)

@@ -1,8 +1,8 @@
 //! Nodes for which nothing has to be taken off the stack: those that say that nothing stands behind an operand, and operands behind
 //! which nothing stands.
 
-ghost use Rattle.std.specs.Prelude.{◌≡◌, ◌++◌, List, [], OnOk, drop, reverse, take, true};
-ghost use Rattle.jd_grammar.specs.Nodes.{all_of, listed};
+ghost use Rattle.std.specs.Prelude.{◌≡◌, List, [], reverse, true};
+ghost use Rattle.jd_grammar.specs.Nodes.{all_of};
 ghost use Rattle.jd_java_expressions.specs.declared.action.Action.TheVariants as actions;
 ghost use Rattle.jd_java_tokens.specs.Contents.{PlainLexeme};
 ghost use Rattle.jd_java_trees.specs.Meaning.{meaning_by};
@@ -13,11 +13,9 @@ ghost use Rattle.jd_java_values.specs.Values.{Expression, Nothing, Suffixes};
 ghost use Rattle.jd_java_values.specs.Views.{value_view};
 
 use crate::actions::{Action, action_at};
-use jd_base::NoMemory;
-use jd_grammar::put;
 use jd_java_attributes::names_of;
 use jd_java_expressions::Action as expression;
-use jd_java_values::{Value, discard};
+use jd_java_values::Value;
 
 // Whether nodes of an action are what stands behind an operand, where they have no parts.
 fn is_behind(action: Action) -> bool
@@ -101,24 +99,4 @@ pub(crate) fn keeps_first(production: u16, stack: &[Value]) -> bool
         return false;
     }
     is_operand_alone(stack)
-}
-
-fn popped<V: Drop>(stack: &mut Vec<V>) -> Option<V>
-    ensures value { listed result ≡ take 1 (reverse stack.old.items) }
-    ensures rest { reverse stack.new.items ≡ drop 1 (reverse stack.old.items) }
-{
-    stack.pop()
-}
-
-/// Takes the value below the top one off a stack.
-#[tactic(auto, using(crate::proofs::Standing::second_dropped, crate::proofs::Standing::none_dropped))]
-pub(crate) fn drop_second<V: Drop>(stack: &mut Vec<V>) -> Result<(), NoMemory>
-    ensures { OnOk result (reverse stack.new.items ≡ take 1 (reverse stack.old.items) ++ drop 2 (reverse stack.old.items)) }
-{
-    let first = popped(stack);
-    discard(popped(stack));
-    match first {
-        Some(first) => put(stack, first),
-        None => Ok(()),
-    }
 }

@@ -16,4 +16,4 @@ returns-then-is_blank c =
 
 pub returns-then-keeps_first : goal.returns-then-keeps_first
 returns-then-keeps_first c =
-    on_ok_weaker c.drop_second.result (λ e. kept c.args.production (map lexeme_view c.args.tokens.now) (reverse c.args.stack.now.items) _ (subst (λ (xs : List Value). KeepsFirst c.args.production (reverse xs)) c.deref.ensures.value (c.keeps_first.ensures c.if-keeps_first.true)) e) c.drop_second.ensures
+    kept c.args.production (map lexeme_view c.args.tokens.now) (reverse c.args.stack.now.items) _ (subst (λ (xs : List Value). KeepsFirst c.args.production (reverse xs)) c.deref.ensures.value (c.keeps_first.ensures c.if-keeps_first.true)) c.drop_second.ensures
