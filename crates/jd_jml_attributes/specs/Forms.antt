@@ -1,5 +1,5 @@
 -- The attributes of what nodes stand for, and of one thing before another.
-use Rattle.std.specs.Prelude.{ℕ, ◌+◌, min, max, List, [], Bool, true, false, cond, ◌&&◌, Option, Some, None}
+use Rattle.std.specs.Prelude.{ℕ, ◌+◌, min, max, List, Bool, false, ◌&&◌, Option, Some, None}
 use Rattle.std.specs.Str.{bytes_eq}
 use Rattle.jd_jml_attributes.specs.declared.form.Form.{Form}
 use Rattle.jd_jml_attributes.specs.declared.form.Kind.{Kind}

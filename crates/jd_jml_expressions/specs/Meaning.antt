@@ -5,7 +5,7 @@ use Rattle.jd_jml_tokens.specs.Lexemes.{PlainLexeme, place_of, number_of}
 use Rattle.jd_syntax.specs.JavaTypes.{PlainIdentifier, PlainWritten, IntType, BooleanType, IntArrayType, NamedType}
 use Rattle.jd_syntax.specs.SpecTrees as jml
 use Rattle.jd_syntax.specs.SpecTrees.{PlainSpec}
-use Rattle.jd_jml_values.specs.Values.{PlainSuffix, Infix, InstanceOf, Choice, Implies, Equivalent, Element, PlainStart, Inside, Cast, PlainValue, Nothing, Expression, Suffixes, Started, ArrayOperand, Expressions, Named, Typed, Dimension, BigInteger}
+use Rattle.jd_jml_values.specs.Values.{PlainSuffix, Infix, InstanceOf, Choice, Implies, Equivalent, Element, Inside, Cast, PlainValue, Nothing, Expression, Suffixes, Started, ArrayOperand, Expressions, Named, Typed, Dimension, BigInteger}
 use Rattle.jd_jml_values.specs.Heads.{identifier_at, type_at, int_type}
 use Rattle.jd_jml_values.specs.Parts.{expression_of, some_expression, suffixes_of, expressions_of, arguments_of, name_of, type_of, bound_type_of, is_dimension}
 use Rattle.jd_jml_expressions.specs.declared.action.Action.{Action}

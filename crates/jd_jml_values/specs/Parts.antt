@@ -1,5 +1,5 @@
 -- What a value is as a part of a node; something else where it is none of the kind that the node has there.
-use Rattle.std.specs.Prelude.{ℕ, Bool, true, false, List, [], Option, Some, None}
+use Rattle.std.specs.Prelude.{Bool, true, false, List, [], Option, Some, None}
 use Rattle.jd_syntax.specs.JavaTypes.{PlainIdentifier, PlainWritten, IntType}
 use Rattle.jd_syntax.specs.SpecTrees as jml
 use Rattle.jd_syntax.specs.SpecTrees.{PlainSpec, PlainSpecType, BigInt, Java, PlainLocation, PlainClause}

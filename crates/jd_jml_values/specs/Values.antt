@@ -1,5 +1,5 @@
 -- What the nodes of JML's derivations stand for, as plain data. Lists have the order of the text.
-use Rattle.std.specs.Prelude.{ℕ, List}
+use Rattle.std.specs.Prelude.{List}
 use Rattle.jd_syntax.specs.JavaTypes.{PlainIdentifier, PlainWritten}
 use Rattle.jd_syntax.specs.SpecTrees.{PlainSpecType, PlainSpec, PlainLocation, PlainClause}
 use Rattle.jd_syntax.specs.declared.java.InfixOperator.{InfixOperator}
