@@ -1,0 +1,4 @@
+mod Frames
+mod Shapes
+mod Table
+mod Trees

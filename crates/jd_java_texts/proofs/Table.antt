@@ -1,0 +1,800 @@
+-- What the nodes of each production show, in the order of the productions.
+use Rattle.std.proofs.Common.{◌≡◌, inl, inr, ℕ, ◌+◌, List, [], ◌∷◌, ◌++◌, map, drop, codes, refl, sym, ap, ◌∙◌}
+use Rattle.std.proofs.lemmas.List.{append-nil}
+use Rattle.std.proofs.lemmas.List.Concat.{flat_map-append}
+use Rattle.jd_grammar.specs.Grammars.{Production}
+use Rattle.jd_grammar.specs.declared.fold.NodeParts.{NodeParts}
+use Rattle.jd_grammar.specs.declared.table.Symbol.{Symbol}
+use Rattle.jd_grammar.specs.declared.table.Symbol.TheVariants.{Token, Name}
+use Rattle.jd_java_grammar.specs.Productions.{java_productions}
+use Rattle.jd_java_tokens.specs.Contents.{PlainLexeme}
+use Rattle.jd_java_tokens.specs.Heads.{place_of, text_of}
+use Rattle.jd_syntax.specs.JavaTypes.{BooleanType, IntArrayType, NamedType}
+use Rattle.jd_syntax.specs.JavaTrees.{java_exprs}
+use Rattle.jd_syntax.specs.declared.java.InfixOperator.TheVariants as infixes
+use Rattle.jd_syntax.specs.declared.java.PrefixOperator.TheVariants as prefixes
+use Rattle.jd_syntax.specs.declared.java.CountOperator.TheVariants as counts
+use Rattle.jd_syntax.specs.declared.java.AssignmentOperator.TheVariants as assignments
+use Rattle.jd_java_values.specs.Values as values
+use Rattle.jd_java_values.specs.Values.{PlainValue}
+use Rattle.jd_java_values.specs.Parts as part
+use Rattle.jd_java_values.specs.Parts.{some_expression, expressions_of, arguments_of, name_of, some_name, type_of, is_dimension, statement_of, some_statement, start_of, static_of, blocks_of, members_of, end_of, classes_of}
+use Rattle.jd_java_values.specs.Heads.{type_at, int_type}
+use Rattle.jd_java_expressions.specs.Meaning.{behind_two, behind_one, all_suffixes}
+use Rattle.jd_java_statements.specs.Meaning.{variables, loop_block}
+use Rattle.jd_java_trees.specs.Meaning.{action_of, meaning_by}
+use Rattle.jd_java_texts.specs.Texts.{Texts, prefix_text, separated, exprs_texts, optional_texts, value_texts, declarator_texts, for_start_texts, target_texts, stmt_texts, members_texts, parent_texts, class_texts}
+use Rattle.jd_java_texts.specs.Kept.{rest, first_there, production_texts, IsProperNode}
+use Rattle.jd_java_texts.proofs.Frames.{int_cast_texts, behind_parenthesis_texts, call_texts, behind_name_texts, behind_start_name_texts, else_texts, Shown}
+use Rattle.jd_java_texts.proofs.Shapes.{two, four, expr_text, name_text, type_text, stmt_text, block_text, two_behind, third_behind, second_before, second_behind, first_before, none_behind, operand, this_operand, inside_operand, name_operand, begun_shown, name_effect_shown, infix_behind, instance_behind, assigned_behind, choice_behind, member_behind, element_behind, parenthesized, int_cast_shown, cast_shown, object_shown, array_shown, first_argument, next_argument, first_effect, int_type_text, variables_text, variables_shown, more_variables, local_text, start_text, named_shown, named_start_shown, name_effect_behind, name_effects_behind, annotated_shown, if_shown, up_to_signs, try_shown, handlers_shown, rescue_shown, finally_shown, handler_shown, next_statement, super_shown, either_static, annotated_body_text, members_shown, negated_text, first_parameter, next_parameter, routine_text, void_shown, typed_shown, int_shown, constructor_shown}
+
+-- the parts of a node show what their names say, and there are no others
+abbrev pub Fits : List Symbol → NodeParts PlainValue → NodeParts Texts → Type 0
+Fits [] parts us = (parts.first ≡ values.Nothing) × (parts.second ≡ values.Nothing) × (parts.third ≡ values.Nothing) × (parts.fourth ≡ values.Nothing)
+Fits (Token kind ∷ ss) parts us = Fits ss parts us
+Fits (Name a ∷ ss) parts us = Shown a parts.first us.first × Fits ss (rest values.Nothing parts) (rest [] us)
+
+-- then so does a node of that production
+abbrev pub Shows : ℕ → Production → Type 0
+Shows n r =
+    (ts : List PlainLexeme) (parts : NodeParts PlainValue) (us : NodeParts Texts) → Fits r.body parts us → IsProperNode (action_of n) parts
+    → Shown r.head (meaning_by (action_of n) ts parts) (production_texts r ts us)
+
+abbrev pub Each : ℕ → List Production → Type 0
+Each n [] = Unit {0}
+Each n (r ∷ rs) = Shows n r × Each (n + 1) rs
+
+-- ---- the productions from that name on; the last ones come first
+
+from_suffixes : Each 218 (drop 218 java_productions)
+from_suffixes = (
+  λ ts parts us h q. member_behind parts.first parts.second us.first us.second us.third (behind_two parts) h.0 h.1.0 (third_behind parts us.third h.1.1.0 h.1.1.1.0),
+  (
+    λ ts parts us h q. element_behind parts.first us.first us.second (behind_one parts) h.0 (second_behind parts us.second h.1.0 h.1.1.0 h.1.1.1),
+    (
+      λ ts parts us h q. none_behind parts h.0 h.1 h.2 h.3,
+      (
+        λ ts parts us h q. refl,
+        (
+          λ ts parts us h q. refl,
+          (
+            λ ts parts us h q. none_behind parts h.0 h.1 h.2 h.3,
+            (
+              λ ts parts us h q. (_, refl, refl),
+              tt,
+            ),
+          ),
+        ),
+      ),
+    ),
+  ),
+)
+
+from_array_member : Each 211 (drop 211 java_productions)
+from_array_member = (
+  λ ts parts us h q. member_behind parts.first parts.second us.first us.second us.third (behind_two parts) h.0 h.1.0 (third_behind parts us.third h.1.1.0 h.1.1.1.0),
+  (
+    λ ts parts us h q. (let (es, is, et) = h.0 in ap (λ t. codes "(" ∷ t) et ∙ sym (ap (λ v. call_texts (arguments_of v)) is)),
+    (
+      λ ts parts us h q. refl,
+      (
+        λ ts parts us h q. (_, refl, refl),
+        (
+          λ ts parts us h q. first_argument parts.first parts.second us.first us.second h.0 h.1.0,
+          (
+            λ ts parts us h q. next_argument parts.first parts.second us.first us.second h.0 h.1.0,
+            (
+              λ ts parts us h q. (_, refl, refl),
+              from_suffixes,
+            ),
+          ),
+        ),
+      ),
+    ),
+  ),
+)
+
+from_literal : Each 203 (drop 203 java_productions)
+from_literal = (
+  λ ts parts us h q. (_, refl, refl),
+  (
+    λ ts parts us h q. (_, refl, refl),
+    (
+      λ ts parts us h q. (_, refl, refl),
+      (
+        λ ts parts us h q. (_, refl, refl),
+        (
+          λ ts parts us h q. object_shown parts.first parts.second us.first us.second (us.third ++ us.fourth) (behind_two parts) h.0 h.1.0 (two_behind parts us.third us.fourth h.1.1.0 h.1.1.1.0),
+          (
+            λ ts parts us h q. array_shown parts.first us.first us.second (behind_one parts) h.0 (second_behind parts us.second h.1.0 h.1.1.0 h.1.1.1),
+            (
+              λ ts parts us h q. (first_before parts us.first us.second h.0 (second_behind parts us.second h.1.0 h.1.1.0 h.1.1.1)),
+              (
+                λ ts parts us h q. none_behind parts h.0 h.1 h.2 h.3,
+                from_array_member,
+              ),
+            ),
+          ),
+        ),
+      ),
+    ),
+  ),
+)
+
+from_unsigned : Each 192 (drop 192 java_productions)
+from_unsigned = (
+  λ ts parts us h q. name_operand (place_of 0 ts) (text_of ts) parts.first us.first (us.second ++ us.third) (behind_one parts) h.0 (second_before parts us.second us.third h.1.0 (third_behind parts us.third h.1.1.0 h.1.1.1.0)),
+  (
+    λ ts parts us h q. operand parts.first us.first (us.second ++ us.third) (behind_one parts) h.0 (second_before parts us.second us.third h.1.0 (third_behind parts us.third h.1.1.0 h.1.1.1.0)),
+    (
+      λ ts parts us h q. this_operand (place_of 0 ts) (us.first ++ us.second) (all_suffixes parts) (first_before parts us.first us.second h.0 (second_behind parts us.second h.1.0 h.1.1.0 h.1.1.1)),
+      (
+        λ ts parts us h q. begun_shown (place_of 0 ts) (codes "new") parts.first us.first h.0,
+        (
+          λ ts parts us h q. int_cast_shown ts parts.first us.first h.0,
+          (
+            λ ts parts us h q. cast_shown (type_at ts BooleanType) parts.first us.first (codes "boolean" ∷ codes ")" ∷ []) refl h.0,
+            (
+              λ ts parts us h q. parenthesized parts.first parts.second us.first us.second h.0 h.1.0 q,
+              (
+                λ ts parts us h q. (let (e, is, et) = h.0 in ap (λ t. codes ")" ∷ t) et ∙ sym (ap int_cast_texts is)),
+                (
+                  λ ts parts us h q. ap (λ t. codes "[" ∷ codes "]" ∷ codes ")" ∷ t) (expr_text parts.first us.first h.0),
+                  (
+                    λ ts parts us h q. (let (e, is, et) = h.0 in et ∙ sym (ap behind_parenthesis_texts is)),
+                    (
+                      λ ts parts us h q. (first_before parts us.first us.second h.0 (second_behind parts us.second h.1.0 h.1.1.0 h.1.1.1)),
+                      from_literal,
+                    ),
+                  ),
+                ),
+              ),
+            ),
+          ),
+        ),
+      ),
+    ),
+  ),
+)
+
+from_unary : Each 183 (drop 183 java_productions)
+from_unary = (
+  λ ts parts us h q. (_, refl, ap (λ t. prefix_text prefixes.Plus ∷ t) (expr_text parts.first us.first h.0)),
+  (
+    λ ts parts us h q. (_, refl, ap (λ t. prefix_text prefixes.Minus ∷ t) (expr_text parts.first us.first h.0)),
+    (
+      λ ts parts us h q. (_, refl, ap (λ t. prefix_text (prefixes.Count counts.Increment) ∷ t) (expr_text parts.first us.first h.0)),
+      (
+        λ ts parts us h q. (_, refl, ap (λ t. prefix_text (prefixes.Count counts.Decrement) ∷ t) (expr_text parts.first us.first h.0)),
+        (
+          λ ts parts us h q. h.0,
+          (
+            λ ts parts us h q. (_, refl, refl),
+            (
+              λ ts parts us h q. h.0,
+              (
+                λ ts parts us h q. (_, refl, ap (λ t. prefix_text prefixes.Not ∷ t) (expr_text parts.first us.first h.0)),
+                (
+                  λ ts parts us h q. begun_shown (place_of 0 ts) (codes "(") parts.first us.first h.0,
+                  from_unsigned,
+                ),
+              ),
+            ),
+          ),
+        ),
+      ),
+    ),
+  ),
+)
+
+from_reference_type : Each 172 (drop 172 java_productions)
+from_reference_type = (
+  λ ts parts us h q. (_, refl, refl),
+  (
+    λ ts parts us h q. (_, refl, refl),
+    (
+      λ ts parts us h q. operand parts.first us.first us.second (behind_one parts) h.0 (second_behind parts us.second h.1.0 h.1.1.0 h.1.1.1),
+      (
+        λ ts parts us h q. infix_behind infixes.Add parts.first us.first us.second (behind_one parts) h.0 (second_behind parts us.second h.1.0 h.1.1.0 h.1.1.1),
+        (
+          λ ts parts us h q. infix_behind infixes.Subtract parts.first us.first us.second (behind_one parts) h.0 (second_behind parts us.second h.1.0 h.1.1.0 h.1.1.1),
+          (
+            λ ts parts us h q. none_behind parts h.0 h.1 h.2 h.3,
+            (
+              λ ts parts us h q. operand parts.first us.first us.second (behind_one parts) h.0 (second_behind parts us.second h.1.0 h.1.1.0 h.1.1.1),
+              (
+                λ ts parts us h q. infix_behind infixes.Multiply parts.first us.first us.second (behind_one parts) h.0 (second_behind parts us.second h.1.0 h.1.1.0 h.1.1.1),
+                (
+                  λ ts parts us h q. infix_behind infixes.Divide parts.first us.first us.second (behind_one parts) h.0 (second_behind parts us.second h.1.0 h.1.1.0 h.1.1.1),
+                  (
+                    λ ts parts us h q. infix_behind infixes.Remainder parts.first us.first us.second (behind_one parts) h.0 (second_behind parts us.second h.1.0 h.1.1.0 h.1.1.1),
+                    (
+                      λ ts parts us h q. none_behind parts h.0 h.1 h.2 h.3,
+                      from_unary,
+                    ),
+                  ),
+                ),
+              ),
+            ),
+          ),
+        ),
+      ),
+    ),
+  ),
+)
+
+from_equality : Each 161 (drop 161 java_productions)
+from_equality = (
+  λ ts parts us h q. operand parts.first us.first us.second (behind_one parts) h.0 (second_behind parts us.second h.1.0 h.1.1.0 h.1.1.1),
+  (
+    λ ts parts us h q. infix_behind infixes.Equal parts.first us.first us.second (behind_one parts) h.0 (second_behind parts us.second h.1.0 h.1.1.0 h.1.1.1),
+    (
+      λ ts parts us h q. infix_behind infixes.NotEqual parts.first us.first us.second (behind_one parts) h.0 (second_behind parts us.second h.1.0 h.1.1.0 h.1.1.1),
+      (
+        λ ts parts us h q. none_behind parts h.0 h.1 h.2 h.3,
+        (
+          λ ts parts us h q. operand parts.first us.first us.second (behind_one parts) h.0 (second_behind parts us.second h.1.0 h.1.1.0 h.1.1.1),
+          (
+            λ ts parts us h q. infix_behind infixes.Less parts.first us.first us.second (behind_one parts) h.0 (second_behind parts us.second h.1.0 h.1.1.0 h.1.1.1),
+            (
+              λ ts parts us h q. infix_behind infixes.LessOrEqual parts.first us.first us.second (behind_one parts) h.0 (second_behind parts us.second h.1.0 h.1.1.0 h.1.1.1),
+              (
+                λ ts parts us h q. infix_behind infixes.Greater parts.first us.first us.second (behind_one parts) h.0 (second_behind parts us.second h.1.0 h.1.1.0 h.1.1.1),
+                (
+                  λ ts parts us h q. infix_behind infixes.GreaterOrEqual parts.first us.first us.second (behind_one parts) h.0 (second_behind parts us.second h.1.0 h.1.1.0 h.1.1.1),
+                  (
+                    λ ts parts us h q. instance_behind parts.first us.first us.second (behind_one parts) h.0 (second_behind parts us.second h.1.0 h.1.1.0 h.1.1.1),
+                    (
+                      λ ts parts us h q. none_behind parts h.0 h.1 h.2 h.3,
+                      from_reference_type,
+                    ),
+                  ),
+                ),
+              ),
+            ),
+          ),
+        ),
+      ),
+    ),
+  ),
+)
+
+from_conditional : Each 152 (drop 152 java_productions)
+from_conditional = (
+  λ ts parts us h q. operand parts.first us.first us.second (behind_one parts) h.0 (second_behind parts us.second h.1.0 h.1.1.0 h.1.1.1),
+  (
+    λ ts parts us h q. choice_behind parts.first parts.second us.first us.second h.0 h.1.0,
+    (
+      λ ts parts us h q. none_behind parts h.0 h.1 h.2 h.3,
+      (
+        λ ts parts us h q. operand parts.first us.first us.second (behind_one parts) h.0 (second_behind parts us.second h.1.0 h.1.1.0 h.1.1.1),
+        (
+          λ ts parts us h q. infix_behind infixes.OrElse parts.first us.first us.second (behind_one parts) h.0 (second_behind parts us.second h.1.0 h.1.1.0 h.1.1.1),
+          (
+            λ ts parts us h q. none_behind parts h.0 h.1 h.2 h.3,
+            (
+              λ ts parts us h q. operand parts.first us.first us.second (behind_one parts) h.0 (second_behind parts us.second h.1.0 h.1.1.0 h.1.1.1),
+              (
+                λ ts parts us h q. infix_behind infixes.AndAlso parts.first us.first us.second (behind_one parts) h.0 (second_behind parts us.second h.1.0 h.1.1.0 h.1.1.1),
+                (
+                  λ ts parts us h q. none_behind parts h.0 h.1 h.2 h.3,
+                  from_equality,
+                ),
+              ),
+            ),
+          ),
+        ),
+      ),
+    ),
+  ),
+)
+
+from_expression : Each 144 (drop 144 java_productions)
+from_expression = (
+  λ ts parts us h q. operand parts.first us.first us.second (behind_one parts) h.0 (second_behind parts us.second h.1.0 h.1.1.0 h.1.1.1),
+  (
+    λ ts parts us h q. assigned_behind assignments.Set parts.first us.first h.0,
+    (
+      λ ts parts us h q. assigned_behind assignments.Add parts.first us.first h.0,
+      (
+        λ ts parts us h q. assigned_behind assignments.Subtract parts.first us.first h.0,
+        (
+          λ ts parts us h q. assigned_behind assignments.Multiply parts.first us.first h.0,
+          (
+            λ ts parts us h q. assigned_behind assignments.Divide parts.first us.first h.0,
+            (
+              λ ts parts us h q. assigned_behind assignments.Remainder parts.first us.first h.0,
+              (
+                λ ts parts us h q. none_behind parts h.0 h.1 h.2 h.3,
+                from_conditional,
+              ),
+            ),
+          ),
+        ),
+      ),
+    ),
+  ),
+)
+
+from_effect_creation : Each 133 (drop 133 java_productions)
+from_effect_creation = (
+  λ ts parts us h q. object_shown parts.first parts.second us.first us.second (us.third ++ us.fourth) (behind_two parts) h.0 h.1.0 (two_behind parts us.third us.fourth h.1.1.0 h.1.1.1.0),
+  (
+    λ ts parts us h q. array_shown parts.first us.first (us.second ++ us.third) (behind_one parts) h.0 (second_before parts us.second us.third h.1.0 (third_behind parts us.third h.1.1.0 h.1.1.1.0)),
+    (
+      λ ts parts us h q. refl,
+      (
+        λ ts parts us h q. refl,
+        (
+          λ ts parts us h q. assigned_behind assignments.Set parts.first us.first h.0,
+          (
+            λ ts parts us h q. assigned_behind assignments.Add parts.first us.first h.0,
+            (
+              λ ts parts us h q. assigned_behind assignments.Subtract parts.first us.first h.0,
+              (
+                λ ts parts us h q. assigned_behind assignments.Multiply parts.first us.first h.0,
+                (
+                  λ ts parts us h q. assigned_behind assignments.Divide parts.first us.first h.0,
+                  (
+                    λ ts parts us h q. assigned_behind assignments.Remainder parts.first us.first h.0,
+                    (
+                      λ ts parts us h q. none_behind parts h.0 h.1 h.2 h.3,
+                      from_expression,
+                    ),
+                  ),
+                ),
+              ),
+            ),
+          ),
+        ),
+      ),
+    ),
+  ),
+)
+
+from_effect : Each 124 (drop 124 java_productions)
+from_effect = (
+  λ ts parts us h q. name_effect_shown (place_of 0 ts) (text_of ts) parts.first us.first h.0,
+  (
+    λ ts parts us h q. h.0,
+    (
+      λ ts parts us h q. (_, _, refl, two (λ x y. x ++ y) h.0 (second_before parts us.second us.third h.1.0 (third_behind parts us.third h.1.1.0 h.1.1.1.0))),
+      (
+        λ ts parts us h q. (_, refl, ap (λ t. prefix_text (prefixes.Count counts.Increment) ∷ t) (expr_text parts.first us.first h.0)),
+        (
+          λ ts parts us h q. (_, refl, ap (λ t. prefix_text (prefixes.Count counts.Decrement) ∷ t) (expr_text parts.first us.first h.0)),
+          (
+            λ ts parts us h q. operand parts.first us.first (us.second ++ us.third) (behind_one parts) h.0 (second_before parts us.second us.third h.1.0 (third_behind parts us.third h.1.1.0 h.1.1.1.0)),
+            (
+              λ ts parts us h q. this_operand (place_of 0 ts) (us.first ++ us.second) (all_suffixes parts) (first_before parts us.first us.second h.0 (second_behind parts us.second h.1.0 h.1.1.0 h.1.1.1)),
+              (
+                λ ts parts us h q. inside_operand (place_of 0 ts) parts.first us.first (us.second ++ us.third) (behind_one parts) h.0 (second_before parts us.second us.third h.1.0 (third_behind parts us.third h.1.1.0 h.1.1.1.0)),
+                (
+                  λ ts parts us h q. begun_shown (place_of 0 ts) (codes "new") parts.first us.first h.0,
+                  from_effect_creation,
+                ),
+              ),
+            ),
+          ),
+        ),
+      ),
+    ),
+  ),
+)
+
+from_rescue : Each 115 (drop 115 java_productions)
+from_rescue = (
+  λ ts parts us h q. rescue_shown parts.first parts.second parts.third us.first us.second us.third h.0 h.1.0 h.1.1.0,
+  (
+    λ ts parts us h q. (_, _, refl, finally_shown parts.first us.first h.0),
+    (
+      λ ts parts us h q. handlers_shown parts.first parts.second us.first us.second h.0 h.1.0,
+      (
+        λ ts parts us h q. refl,
+        (
+          λ ts parts us h q. handler_shown (place_of 0 ts) parts.second parts.third parts.fourth us.first us.second us.third us.fourth h.0 h.1.0 h.1.1.0 h.1.1.1.0,
+          (
+            λ ts parts us h q. refl,
+            (
+              λ ts parts us h q. refl,
+              (
+                λ ts parts us h q. finally_shown parts.first us.first h.0,
+                (
+                  λ ts parts us h q. refl,
+                  from_effect,
+                ),
+              ),
+            ),
+          ),
+        ),
+      ),
+    ),
+  ),
+)
+
+from_for_update : Each 107 (drop 107 java_productions)
+from_for_update = (
+  λ ts parts us h q. refl,
+  (
+    λ ts parts us h q. first_effect (codes ")") parts.first parts.second us.first us.second h.0 h.1.0,
+    (
+      λ ts parts us h q. two (λ x y. codes "," ∷ (x ++ y)) (expr_text parts.first us.first h.0) h.1.0,
+      (
+        λ ts parts us h q. refl,
+        (
+          λ ts parts us h q. (let (x, is, et) = h.0 in et ∙ sym (ap (λ v. target_texts (some_name v)) is)),
+          (
+            λ ts parts us h q. refl,
+            (
+              λ ts parts us h q. refl,
+              (
+                λ ts parts us h q. (let (e, is, et) = h.0 in ap (λ t. t ++ codes ";" ∷ []) et ∙ sym (ap (λ v. optional_texts (some_expression v) ++ codes ";" ∷ []) is)),
+                from_rescue,
+              ),
+            ),
+          ),
+        ),
+      ),
+    ),
+  ),
+)
+
+from_for_init : Each 98 (drop 98 java_productions)
+from_for_init = (
+  λ ts parts us h q. refl,
+  (
+    λ ts parts us h q. start_text (type_at ts (int_type (is_dimension parts.first))) (separated (map declarator_texts (variables parts.second parts.third parts.fourth))) (codes "int" ∷ us.first) (us.second ++ (us.third ++ (us.fourth ++ codes ";" ∷ []))) (ap (λ t. codes "int" ∷ t) h.0 ∙ int_type_text (is_dimension parts.first)) (variables_text (codes ";" ∷ []) parts.second parts.third parts.fourth us.second us.third us.fourth h.1.0 h.1.1.0 h.1.1.1.0),
+    (
+      λ ts parts us h q. start_text (type_at ts BooleanType) (separated (map declarator_texts (variables parts.first parts.second parts.third))) (codes "boolean" ∷ []) (us.first ++ (us.second ++ (us.third ++ codes ";" ∷ []))) refl (variables_text (codes ";" ∷ []) parts.first parts.second parts.third us.first us.second us.third h.0 h.1.0 h.1.1.0),
+      (
+        λ ts parts us h q. named_start_shown (place_of 0 ts) (text_of ts) parts.first us.first h.0,
+        (
+          λ ts parts us h q. first_effect (codes ";") parts.first parts.second us.first us.second h.0 h.1.0,
+          (
+            λ ts parts us h q. (let (ds, is, et) = h.0 in ap (λ t. t ++ codes ";" ∷ []) et ∙ sym (ap behind_start_name_texts is)),
+            (
+              λ ts parts us h q. name_effects_behind parts.first us.first us.second (expressions_of parts.second) h.0 h.1.0,
+              (
+                λ ts parts us h q. refl,
+                (
+                  λ ts parts us h q. (let (e, is, et) = h.0 in ap (λ t. t ++ codes ";" ∷ []) et ∙ sym (ap (λ v. optional_texts (some_expression v) ++ codes ";" ∷ []) is)),
+                  from_for_update,
+                ),
+              ),
+            ),
+          ),
+        ),
+      ),
+    ),
+  ),
+)
+
+from_else : Each 90 (drop 90 java_productions)
+from_else = (
+  λ ts parts us h q. (let (s, is, et) = h.0 in ap (λ t. codes "else" ∷ t) et ∙ sym (ap (λ v. else_texts (some_statement v)) is)),
+  (
+    λ ts parts us h q. refl,
+    (
+      λ ts parts us h q. (_, refl, two (λ x y. codes "while" ∷ codes "(" ∷ (x ++ codes ")" ∷ y)) (expr_text parts.first us.first h.0) (stmt_text parts.second us.second h.1.0)),
+      (
+        λ ts parts us h q. (_, refl, four (λ a b c d. codes "for" ∷ codes "(" ∷ (a ++ (b ++ (c ++ d)))) h.0 h.1.0 h.1.1.0 (stmt_text parts.fourth us.fourth h.1.1.1.0) ∙ ap (λ t. codes "for" ∷ codes "(" ∷ t) (up_to_signs (for_start_texts (start_of parts.first)) (optional_texts (some_expression parts.second)) (exprs_texts (java_exprs (expressions_of parts.third))) (stmt_texts (statement_of parts.fourth)) (codes ";") (codes ";") (codes ")"))),
+        (
+          λ ts parts us h q. h.0,
+          (
+            λ ts parts us h q. (_, refl, ap (λ t. text_of ts ∷ codes ":" ∷ t) (stmt_text parts.first us.first h.0)),
+            (
+              λ ts parts us h q. annotated_shown (loop_block ts) parts.first us.first h.0,
+              (
+                λ ts parts us h q. h.0,
+                from_for_init,
+              ),
+            ),
+          ),
+        ),
+      ),
+    ),
+  ),
+)
+
+from_statement_without_name : Each 79 (drop 79 java_productions)
+from_statement_without_name = (
+  λ ts parts us h q. (_, refl, block_text parts.first us.first h.0),
+  (
+    λ ts parts us h q. (_, refl, refl),
+    (
+      λ ts parts us h q. (_, refl, ap (λ t. t ++ codes ";" ∷ []) (expr_text parts.first us.first h.0)),
+      (
+        λ ts parts us h q. if_shown (place_of 0 ts) parts.first parts.second parts.third us.first us.second us.third h.0 h.1.0 h.1.1.0,
+        (
+          λ ts parts us h q. h.0,
+          (
+            λ ts parts us h q. annotated_shown (loop_block ts) parts.first us.first h.0,
+            (
+              λ ts parts us h q. (_, refl, ap (λ t. codes "break" ∷ (t ++ codes ";" ∷ [])) h.0),
+              (
+                λ ts parts us h q. (_, refl, ap (λ t. codes "continue" ∷ (t ++ codes ";" ∷ [])) h.0),
+                (
+                  λ ts parts us h q. (_, refl, ap (λ t. codes "return" ∷ t) h.0),
+                  (
+                    λ ts parts us h q. (_, refl, ap (λ t. codes "throw" ∷ (t ++ codes ";" ∷ [])) (expr_text parts.first us.first h.0)),
+                    (
+                      λ ts parts us h q. try_shown (place_of 0 ts) parts.first parts.second us.first us.second h.0 h.1.0,
+                      from_else,
+                    ),
+                  ),
+                ),
+              ),
+            ),
+          ),
+        ),
+      ),
+    ),
+  ),
+)
+
+from_variables : Each 70 (drop 70 java_productions)
+from_variables = (
+  λ ts parts us h q. (_, refl, variables_shown parts.first parts.second parts.third us.first us.second us.third h.0 h.1.0 h.1.1.0),
+  (
+    λ ts parts us h q. (let (e, is, et) = h.0 in ap (λ t. codes "=" ∷ t) et ∙ sym (ap (λ v. value_texts (some_expression v)) is)),
+    (
+      λ ts parts us h q. refl,
+      (
+        λ ts parts us h q. more_variables parts.first parts.second parts.third us.first us.second us.third h.0 h.1.0 h.1.1.0,
+        (
+          λ ts parts us h q. refl,
+          (
+            λ ts parts us h q. named_shown (place_of 0 ts) (text_of ts) parts.first us.first h.0,
+            (
+              λ ts parts us h q. h.0,
+              (
+                λ ts parts us h q. (let (s, is, et) = h.0 in ap (λ t. codes ":" ∷ t) et ∙ sym (ap behind_name_texts is)),
+                (
+                  λ ts parts us h q. name_effect_behind parts.first us.first h.0,
+                  from_statement_without_name,
+                ),
+              ),
+            ),
+          ),
+        ),
+      ),
+    ),
+  ),
+)
+
+from_block_statement : Each 62 (drop 62 java_productions)
+from_block_statement = (
+  λ ts parts us h q. (_, refl, local_text (type_of parts.first) (separated (map declarator_texts (variables parts.second parts.third parts.fourth))) us.first (us.second ++ (us.third ++ (us.fourth ++ codes ";" ∷ []))) (type_text parts.first us.first h.0) (variables_text (codes ";" ∷ []) parts.second parts.third parts.fourth us.second us.third us.fourth h.1.0 h.1.1.0 h.1.1.1.0)),
+  (
+    λ ts parts us h q. (_, refl, local_text (type_at ts (int_type (is_dimension parts.first))) (separated (map declarator_texts (variables parts.second parts.third parts.fourth))) (codes "int" ∷ us.first) (us.second ++ (us.third ++ (us.fourth ++ codes ";" ∷ []))) (ap (λ t. codes "int" ∷ t) h.0 ∙ int_type_text (is_dimension parts.first)) (variables_text (codes ";" ∷ []) parts.second parts.third parts.fourth us.second us.third us.fourth h.1.0 h.1.1.0 h.1.1.1.0)),
+    (
+      λ ts parts us h q. (_, refl, local_text (type_at ts BooleanType) (separated (map declarator_texts (variables parts.first parts.second parts.third))) (codes "boolean" ∷ []) (us.first ++ (us.second ++ (us.third ++ codes ";" ∷ []))) refl (variables_text (codes ";" ∷ []) parts.first parts.second parts.third us.first us.second us.third h.0 h.1.0 h.1.1.0)),
+      (
+        λ ts parts us h q. named_shown (place_of 0 ts) (text_of ts) parts.first us.first h.0,
+        (
+          λ ts parts us h q. h.0,
+          (
+            λ ts parts us h q. (let (s, is, et) = h.0 in ap (λ t. codes ":" ∷ t) et ∙ sym (ap behind_name_texts is)),
+            (
+              λ ts parts us h q. (let (ds, is, et) = h.0 in ap (λ t. t ++ codes ";" ∷ []) et ∙ sym (ap behind_name_texts is)),
+              (
+                λ ts parts us h q. name_effect_behind parts.first us.first h.0,
+                from_variables,
+              ),
+            ),
+          ),
+        ),
+      ),
+    ),
+  ),
+)
+
+from_constructor_body : Each 56 (drop 56 java_productions)
+from_constructor_body = (
+  λ ts parts us h q. (let (ss, is, et) = h.0 in (ss, is, ap (λ t. codes "{" ∷ t) et)),
+  (
+    λ ts parts us h q. super_shown (place_of 0 ts) parts.first parts.second us.first us.second h.0 h.1.0,
+    (
+      λ ts parts us h q. h.0,
+      (
+        λ ts parts us h q. (let (ss, is, et) = h.0 in (ss, is, ap (λ t. codes "{" ∷ t) et)),
+        (
+          λ ts parts us h q. (_, refl, refl),
+          (
+            λ ts parts us h q. next_statement parts.first parts.second us.first us.second h.0 h.1.0,
+            from_block_statement,
+          ),
+        ),
+      ),
+    ),
+  ),
+)
+
+from_type : Each 49 (drop 49 java_productions)
+from_type = (
+  λ ts parts us h q. (_, refl, ap (λ t. codes "int" ∷ t) h.0 ∙ int_type_text (is_dimension parts.first)),
+  (
+    λ ts parts us h q. (_, refl, refl),
+    (
+      λ ts parts us h q. (_, refl, refl),
+      (
+        λ ts parts us h q. refl,
+        (
+          λ ts parts us h q. refl,
+          (
+            λ ts parts us h q. refl,
+            (
+              λ ts parts us h q. refl,
+              from_constructor_body,
+            ),
+          ),
+        ),
+      ),
+    ),
+  ),
+)
+
+from_declared : Each 39 (drop 39 java_productions)
+from_declared = (
+  λ ts parts us h q. inl h.0,
+  (
+    λ ts parts us h q. inr (_, refl, ap (λ t. t ++ codes ";" ∷ []) h.0),
+    (
+      λ ts parts us h q. two (λ x y. codes "," ∷ (x ++ y)) (name_text parts.first us.first h.0) h.1.0,
+      (
+        λ ts parts us h q. refl,
+        (
+          λ ts parts us h q. (_, _, refl, routine_text parts.first parts.third us.first us.second us.third h.0 h.1.0 h.1.1.0),
+          (
+            λ ts parts us h q. refl,
+            (
+              λ ts parts us h q. first_parameter parts.first parts.second us.first us.second h.0 h.1.0,
+              (
+                λ ts parts us h q. next_parameter parts.first parts.second us.first us.second h.0 h.1.0,
+                (
+                  λ ts parts us h q. refl,
+                  (
+                    λ ts parts us h q. (_, refl, two (λ x y. x ++ y) (type_text parts.third us.third h.1.1.0) (name_text parts.fourth us.fourth h.1.1.1.0)),
+                    from_type,
+                  ),
+                ),
+              ),
+            ),
+          ),
+        ),
+      ),
+    ),
+  ),
+)
+
+from_int_declaration : Each 29 (drop 29 java_productions)
+from_int_declaration = (
+  λ ts parts us h q. λ ls. typed_shown (type_at ls IntArrayType) parts.first parts.second us.first us.second h.0 h.1.0,
+  (
+    λ ts parts us h q. λ ls. int_shown ls parts.first parts.second us.first us.second h.0 h.1.0,
+    (
+      λ ts parts us h q. λ ls. constructor_shown ls (part.parameters_of parts.first) (part.statements_of parts.third) _ (routine_text parts.first parts.third us.first us.second us.third h.0 h.1.0 h.1.1.0),
+      (
+        λ ts parts us h q. λ ls. typed_shown (type_at ls (NamedType (text_of ls))) parts.first parts.second us.first us.second h.0 h.1.0,
+        (
+          λ ts parts us h q. inr (let (z, is, et) = h.0 in (z, is, ap (λ t. codes "=" ∷ (t ++ codes ";" ∷ [])) et)),
+          (
+            λ ts parts us h q. inl h.0,
+            (
+              λ ts parts us h q. (_, refl, refl),
+              (
+                λ ts parts us h q. (_, refl, h.0 ∙ negated_text (part.number_of parts.first)),
+                (
+                  λ ts parts us h q. refl,
+                  (
+                    λ ts parts us h q. refl,
+                    from_declared,
+                  ),
+                ),
+              ),
+            ),
+          ),
+        ),
+      ),
+    ),
+  ),
+)
+
+from_member_declaration : Each 20 (drop 20 java_productions)
+from_member_declaration = (
+  λ ts parts us h q. ap (λ t. t ++ us.second) h.0 ∙ h.1.0 (static_of parts.first) q (place_of 0 ts) (blocks_of parts.first),
+  (
+    λ ts parts us h q. two first_there h.0 h.1.1.0 ∙ either_static (static_of parts.first) (static_of parts.third),
+    (
+      λ ts parts us h q. refl,
+      (
+        λ ts parts us h q. refl,
+        (
+          λ ts parts us h q. refl,
+          (
+            λ ts parts us h q. void_shown parts.first parts.second us.first us.second h.0 h.1.0,
+            (
+              λ ts parts us h q. typed_shown (type_at ts BooleanType) parts.first parts.second us.first us.second h.0 h.1.0,
+              (
+                λ ts parts us h q. h.0 ts,
+                (
+                  λ ts parts us h q. h.0 ts,
+                  from_int_declaration,
+                ),
+              ),
+            ),
+          ),
+        ),
+      ),
+    ),
+  ),
+)
+
+from_modifier : Each 9 (drop 9 java_productions)
+from_modifier = (
+  λ ts parts us h q. refl,
+  (
+    λ ts parts us h q. refl,
+    (
+      λ ts parts us h q. refl,
+      (
+        λ ts parts us h q. refl,
+        (
+          λ ts parts us h q. (let (x, is, et) = h.0 in ap (λ t. codes "extends" ∷ t) et ∙ sym (ap (λ v. parent_texts (some_name v)) is)),
+          (
+            λ ts parts us h q. refl,
+            (
+              λ ts parts us h q. refl,
+              (
+                λ ts parts us h q. h.0 ∙ ap (λ t. t ++ codes "}" ∷ []) (sym (annotated_body_text ts (members_of parts.first) (end_of parts.first))),
+                (
+                  λ ts parts us h q. members_shown parts.first parts.second us.first us.second h.0 h.1.0,
+                  (
+                    λ ts parts us h q. refl,
+                    (
+                      λ ts parts us h q. members_shown parts.first parts.second us.first us.second h.0 h.1.0,
+                      from_member_declaration,
+                    ),
+                  ),
+                ),
+              ),
+            ),
+          ),
+        ),
+      ),
+    ),
+  ),
+)
+
+from_compilation_unit : Each 0 (drop 0 java_productions)
+from_compilation_unit = (
+  λ ts parts us h q. h.1.1.0,
+  (
+    λ ts parts us h q. h.0,
+    (
+      λ ts parts us h q. refl,
+      (
+        λ ts parts us h q. refl,
+        (
+          λ ts parts us h q. two (λ x y. x ++ y) h.0 h.1.0 ∙ sym (flat_map-append class_texts (classes_of parts.first) (classes_of parts.second)),
+          (
+            λ ts parts us h q. refl,
+            (
+              λ ts parts us h q. four (λ a b c d. a ++ codes "class" ∷ (b ++ (c ++ codes "{" ∷ d))) h.0 (name_text parts.second us.second h.1.0) h.1.1.0 h.1.1.1.0 ∙ sym (append-nil (codes "class" ∷ (name_of parts.second).name ∷ (parent_texts (some_name parts.third) ++ codes "{" ∷ (members_texts (members_of parts.fourth) ++ codes "}" ∷ [])))),
+              (
+                λ ts parts us h q. refl,
+                (
+                  λ ts parts us h q. refl,
+                  from_modifier,
+                ),
+              ),
+            ),
+          ),
+        ),
+      ),
+    ),
+  ),
+)
+
+pub each : Each 0 java_productions
+each = from_compilation_unit
