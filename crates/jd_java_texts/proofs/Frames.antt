@@ -1,5 +1,5 @@
 -- What a node of each name shows.
-use Rattle.std.proofs.Common.{◌≡◌, ◌⊎◌, ℕ, ℤ, List, [], ◌∷◌, ◌++◌, map, Bool, cond, Option, Some, None, codes, slice_index_or}
+use Rattle.std.proofs.Common.{◌≡◌, ◌⊎◌, ℕ, ℤ, List, [], ◌∷◌, ◌++◌, map, Bool, false, cond, Option, Some, None, codes, slice_index_or}
 use Rattle.std.specs.List.{flat_map}
 use Rattle.jd_java_tokens.specs.Contents.{PlainLexeme}
 use Rattle.jd_java_tokens.specs.Heads.{text_of}
@@ -12,7 +12,7 @@ use Rattle.jd_java_values.specs.Parts as part
 use Rattle.jd_java_values.specs.Parts.{expression_of, some_expression, suffixes_of, expressions_of, arguments_of, some_name, is_dimension, some_statement, some_statements, variables_of, start_of, handlers_of, static_of, names_of, parameters_of, members_of, classes_of}
 use Rattle.jd_java_members.specs.Meaning.{member_at, int_declaration, named_declaration}
 use Rattle.jd_java_texts.specs.Texts.{Texts, infix_text, count_text, assignment_text, type_texts, behind_commas, separated, names_texts, expr_texts, exprs_texts, more_exprs_texts, optional_texts, value_texts, declarator_texts, for_start_texts, target_texts, stmt_texts, stmts_texts, handlers_texts, parameter_texts, static_texts, integer_texts, members_texts, parent_texts, classes_texts}
-use Rattle.jd_java_texts.specs.Kept.{negated_texts, IsStaticAsDeclared}
+use Rattle.jd_java_texts.specs.Kept.{negated_texts, NodeTexts, IsStaticAsDeclared}
 
 -- ---- texts of values
 
@@ -134,18 +134,18 @@ abbrev pub IsIntDeclared : PlainValue → Texts → Type 0
 IsIntDeclared v t = IsDeclared v t ⊎ ((z : ℤ) × (v ≡ values.Declared (values.Constant z)) × (t ≡ codes "=" ∷ integer_texts z ++ codes ";" ∷ []))
 
 -- with modifiers before it, a member
-abbrev pub IsDeclaration : PlainValue → Texts → Type 0
-IsDeclaration v t =
+abbrev pub IsDeclaration : PlainValue → Texts → Bool → Type 0
+IsDeclaration v t constructor =
     (static : Bool) → IsStaticAsDeclared static v → (at : ℕ) (blocks : List PlainSpecBlock)
-    → static_texts static ++ t ≡ members_texts (members_of (member_at at static blocks v))
+    → cond constructor [] (static_texts static) ++ t ≡ members_texts (members_of (member_at at static blocks v))
 
 -- behind `int`
 abbrev pub IsIntDeclaration : PlainValue → Texts → Type 0
-IsIntDeclaration v t = (ts : List PlainLexeme) → IsDeclaration (int_declaration ts v) (codes "int" ∷ t)
+IsIntDeclaration v t = (ts : List PlainLexeme) → IsDeclaration (int_declaration ts v) (codes "int" ∷ t) false
 
 -- behind the name that it begins with
-abbrev pub IsNamedDeclaration : PlainValue → Texts → Type 0
-IsNamedDeclaration v t = (ts : List PlainLexeme) → IsDeclaration (named_declaration ts v) (text_of ts ∷ t)
+abbrev pub IsNamedDeclaration : PlainValue → Texts → Bool → Type 0
+IsNamedDeclaration v t constructor = (ts : List PlainLexeme) → IsDeclaration (named_declaration ts v) (text_of ts ∷ t) constructor
 
 -- ---- by name
 
@@ -199,55 +199,55 @@ pub data Frame : Type 0 where
   MoreArguments : Frame
   Identifier : Frame
 
-abbrev pub shown_by : Frame → PlainValue → Texts → Type 0
-shown_by Blank v t = t ≡ []
-shown_by Classes v t = t ≡ classes_texts (classes_of v)
-shown_by Modifiers v t = t ≡ static_texts (static_of v)
-shown_by Parent v t = t ≡ parent_texts (some_name v)
-shown_by Body v t = t ≡ members_texts (members_of v) ++ codes "}" ∷ []
-shown_by Members v t = t ≡ members_texts (members_of v)
-shown_by Declaration v t = IsDeclaration v t
-shown_by IntDeclaration v t = IsIntDeclaration v t
-shown_by NamedDeclaration v t = IsNamedDeclaration v t
-shown_by IntDeclared v t = IsIntDeclared v t
-shown_by Constant v t = IsConstant v t
-shown_by Magnitude v t = t ≡ negated_texts (part.number_of v)
-shown_by Declared v t = IsDeclared v t
-shown_by MoreNames v t = t ≡ behind_commas (names_texts (names_of v))
-shown_by Method v t = IsMethod v t
-shown_by Parameters v t = t ≡ separated (map parameter_texts (parameters_of v)) ++ codes ")" ∷ []
-shown_by MoreParameters v t = t ≡ behind_commas (map parameter_texts (parameters_of v)) ++ codes ")" ∷ []
-shown_by Parameter v t = IsParameter v t
-shown_by Written v t = IsTyped v t
-shown_by Dimension v t = t ≡ cond (is_dimension v) (codes "[" ∷ codes "]" ∷ []) []
-shown_by Block v t = IsBlock v t
-shown_by Statements v t = AreStmts v t
-shown_by Statement v t = IsStmt v t
-shown_by BehindName v t = t ≡ behind_name_texts v
-shown_by Variables v t = AreVariables v t
-shown_by Initializer v t = t ≡ value_texts (some_expression v)
-shown_by MoreVariables v t = t ≡ behind_commas (map declarator_texts (variables_of v))
-shown_by Else v t = t ≡ else_texts (some_statement v)
-shown_by ForStart v t = t ≡ for_start_texts (start_of v) ++ codes ";" ∷ []
-shown_by BehindStartName v t = t ≡ behind_start_name_texts v
-shown_by UpToSemicolon v t = t ≡ optional_texts (some_expression v) ++ codes ";" ∷ []
-shown_by ForUpdate v t = t ≡ exprs_texts (java_exprs (expressions_of v)) ++ codes ")" ∷ []
-shown_by MoreEffects v t = t ≡ more_exprs_texts (java_exprs (expressions_of v))
-shown_by Target v t = t ≡ target_texts (some_name v)
-shown_by Rescue v t = IsRescue v t
-shown_by Handlers v t = t ≡ handlers_texts (java_handlers (handlers_of v))
-shown_by Finally v t = t ≡ finally_texts (some_statements v)
-shown_by Expression v t = IsExpr v t
-shown_by NameEffect v t = IsNameEffect v t
-shown_by Creation v t = IsStart (codes "new") v t
-shown_by Suffixes v t = t ≡ suffixes_texts (suffixes_of v)
-shown_by Parenthesis v t = IsStart (codes "(") v t
-shown_by IntCast v t = t ≡ int_cast_texts v
-shown_by BehindParenthesis v t = t ≡ behind_parenthesis_texts v
-shown_by Call v t = t ≡ call_texts (arguments_of v)
-shown_by Arguments v t = AreExprs (λ es. exprs_texts (java_exprs es) ++ codes ")" ∷ []) v t
-shown_by MoreArguments v t = AreExprs (λ es. more_exprs_texts (java_exprs es) ++ codes ")" ∷ []) v t
-shown_by Identifier v t = IsNamed v t
+abbrev pub shown_by : Frame → PlainValue → Texts → Bool → Type 0
+shown_by Blank v t constructor = t ≡ []
+shown_by Classes v t constructor = t ≡ classes_texts (classes_of v)
+shown_by Modifiers v t constructor = t ≡ static_texts (static_of v)
+shown_by Parent v t constructor = t ≡ parent_texts (some_name v)
+shown_by Body v t constructor = t ≡ members_texts (members_of v) ++ codes "}" ∷ []
+shown_by Members v t constructor = t ≡ members_texts (members_of v)
+shown_by Declaration v t constructor = IsDeclaration v t constructor
+shown_by IntDeclaration v t constructor = IsIntDeclaration v t
+shown_by NamedDeclaration v t constructor = IsNamedDeclaration v t constructor
+shown_by IntDeclared v t constructor = IsIntDeclared v t
+shown_by Constant v t constructor = IsConstant v t
+shown_by Magnitude v t constructor = t ≡ negated_texts (part.number_of v)
+shown_by Declared v t constructor = IsDeclared v t
+shown_by MoreNames v t constructor = t ≡ behind_commas (names_texts (names_of v))
+shown_by Method v t constructor = IsMethod v t
+shown_by Parameters v t constructor = t ≡ separated (map parameter_texts (parameters_of v)) ++ codes ")" ∷ []
+shown_by MoreParameters v t constructor = t ≡ behind_commas (map parameter_texts (parameters_of v)) ++ codes ")" ∷ []
+shown_by Parameter v t constructor = IsParameter v t
+shown_by Written v t constructor = IsTyped v t
+shown_by Dimension v t constructor = t ≡ cond (is_dimension v) (codes "[" ∷ codes "]" ∷ []) []
+shown_by Block v t constructor = IsBlock v t
+shown_by Statements v t constructor = AreStmts v t
+shown_by Statement v t constructor = IsStmt v t
+shown_by BehindName v t constructor = t ≡ behind_name_texts v
+shown_by Variables v t constructor = AreVariables v t
+shown_by Initializer v t constructor = t ≡ value_texts (some_expression v)
+shown_by MoreVariables v t constructor = t ≡ behind_commas (map declarator_texts (variables_of v))
+shown_by Else v t constructor = t ≡ else_texts (some_statement v)
+shown_by ForStart v t constructor = t ≡ for_start_texts (start_of v) ++ codes ";" ∷ []
+shown_by BehindStartName v t constructor = t ≡ behind_start_name_texts v
+shown_by UpToSemicolon v t constructor = t ≡ optional_texts (some_expression v) ++ codes ";" ∷ []
+shown_by ForUpdate v t constructor = t ≡ exprs_texts (java_exprs (expressions_of v)) ++ codes ")" ∷ []
+shown_by MoreEffects v t constructor = t ≡ more_exprs_texts (java_exprs (expressions_of v))
+shown_by Target v t constructor = t ≡ target_texts (some_name v)
+shown_by Rescue v t constructor = IsRescue v t
+shown_by Handlers v t constructor = t ≡ handlers_texts (java_handlers (handlers_of v))
+shown_by Finally v t constructor = t ≡ finally_texts (some_statements v)
+shown_by Expression v t constructor = IsExpr v t
+shown_by NameEffect v t constructor = IsNameEffect v t
+shown_by Creation v t constructor = IsStart (codes "new") v t
+shown_by Suffixes v t constructor = t ≡ suffixes_texts (suffixes_of v)
+shown_by Parenthesis v t constructor = IsStart (codes "(") v t
+shown_by IntCast v t constructor = t ≡ int_cast_texts v
+shown_by BehindParenthesis v t constructor = t ≡ behind_parenthesis_texts v
+shown_by Call v t constructor = t ≡ call_texts (arguments_of v)
+shown_by Arguments v t constructor = AreExprs (λ es. exprs_texts (java_exprs es) ++ codes ")" ∷ []) v t
+shown_by MoreArguments v t constructor = AreExprs (λ es. more_exprs_texts (java_exprs es) ++ codes ")" ∷ []) v t
+shown_by Identifier v t constructor = IsNamed v t
 
 -- in the order of the names
 abbrev pub frames : List Frame
@@ -351,5 +351,5 @@ abbrev pub frame_of : ℕ → Frame
 frame_of a = slice_index_or frames a Blank
 
 -- a node of that name with that value has these texts
-abbrev pub Shown : ℕ → PlainValue → Texts → Type 0
-Shown a v t = shown_by (frame_of a) v t
+abbrev pub Shown : ℕ → PlainValue → NodeTexts → Type 0
+Shown a v u = shown_by (frame_of a) v u.texts u.of_constructor

@@ -399,6 +399,15 @@ super_shown at v w t u h k = (
 
 -- ---- members
 
+declared_text : (constructor : Bool) (t u : Texts) → cond constructor u (t ++ u) ≡ cond constructor [] t ++ u
+declared_text true t u = refl
+declared_text false t u = refl
+
+-- a member of modifiers and a declaration
+pub member_shown : (at : ℕ) (static constructor : Bool) (blocks : List PlainSpecBlock) (v : PlainValue) (t u : Texts) → t ≡ static_texts static → IsDeclaration v u constructor → IsStaticAsDeclared static v
+    → cond constructor u (t ++ u) ≡ members_texts (members_of (member_at at static blocks v))
+member_shown at static constructor blocks v t u h k q = declared_text constructor t u ∙ ap (λ x. cond constructor [] x ++ u) h ∙ k static q at blocks
+
 pub either_static : (a b : Bool) → first_there (static_texts a) (static_texts b) ≡ static_texts (a || b)
 either_static true b = refl
 either_static false b = refl
@@ -458,14 +467,14 @@ field_member : (static : Bool) (at : ℕ) (blocks : List PlainSpecBlock) (t : Pl
     → type_texts t.written ++ (x.name ∷ (behind_commas (names_texts xs) ++ codes ";" ∷ [])) ≡ one_member static at blocks (values.Declaration (java.Gives t) x (values.FieldNames xs))
 field_member static at blocks t x xs = sym (append-nil (type_texts t.written ++ (x.name ∷ (behind_commas (names_texts xs) ++ codes ";" ∷ []))))
 
-pub void_shown : (v w : PlainValue) (t u : Texts) → IsNamed v t → IsMethod w u → IsDeclaration (values.Declaration java.Void (name_of v) (declared_of w)) (codes "void" ∷ (t ++ u))
+pub void_shown : (v w : PlainValue) (t u : Texts) → IsNamed v t → IsMethod w u → IsDeclaration (values.Declaration java.Void (name_of v) (declared_of w)) (codes "void" ∷ (t ++ u)) false
 void_shown v w t u h (ps, ss, is, et) static q at blocks =
     two (λ x y. static_texts static ++ codes "void" ∷ (x ++ y)) (name_text v t h) et
     ∙ routine_member static at blocks java.Void (name_of v) ps ss
     ∙ sym (ap (λ x. one_member static at blocks (values.Declaration java.Void (name_of v) (declared_of x))) is)
 
 pub typed_shown : (y : PlainWritten) (v w : PlainValue) (t u : Texts) → IsNamed v t → IsDeclared w u
-    → IsDeclaration (values.Declaration (java.Gives y) (name_of v) (declared_of w)) (type_texts y.written ++ (t ++ u))
+    → IsDeclaration (values.Declaration (java.Gives y) (name_of v) (declared_of w)) (type_texts y.written ++ (t ++ u)) false
 typed_shown y v w t u h (inl (ps, ss, is, et)) static q at blocks =
     two (λ a b. static_texts static ++ (type_texts y.written ++ (a ++ b))) (name_text v t h) et
     ∙ routine_member static at blocks (java.Gives y) (name_of v) ps ss
@@ -477,7 +486,7 @@ typed_shown y v w t u h (inr (xs, is, et)) static q at blocks =
     ∙ sym (ap (λ x. one_member static at blocks (values.Declaration (java.Gives y) (name_of v) (declared_of x))) is)
 
 pub int_shown : (ts : List PlainLexeme) (v w : PlainValue) (t u : Texts) → IsNamed v t → IsIntDeclared w u
-    → IsDeclaration (int_declaration ts (values.Declarator false (name_of v) (declared_of w))) (codes "int" ∷ (t ++ u))
+    → IsDeclaration (int_declaration ts (values.Declarator false (name_of v) (declared_of w))) (codes "int" ∷ (t ++ u)) false
 int_shown ts v w t u h (inl k) = typed_shown (type_at ts (int_type false)) v w t u h k
 int_shown ts v w t u h (inr (z, is, et)) = λ static q at blocks.
     let on : static ≡ true = subst (λ x. IsStaticAsDeclared static (values.Declaration (java.Gives (type_at ts (int_type false))) (name_of v) (declared_of x))) is q in
@@ -486,6 +495,5 @@ int_shown ts v w t u h (inr (z, is, et)) = λ static q at blocks.
     ∙ sym (ap (λ x. one_member static at blocks (values.Declaration (java.Gives (type_at ts (int_type false))) (name_of v) (declared_of x))) is)
 
 pub constructor_shown : (ts : List PlainLexeme) (ps : List JavaParameter) (ss : List JavaStmt) (t : Texts) → t ≡ routine_texts ps ss
-    → IsDeclaration (named_declaration ts (values.Declared (values.Routine ps ss))) (text_of ts ∷ t)
-constructor_shown ts ps ss t e static q at blocks =
-    two (λ s x. static_texts s ++ text_of ts ∷ x) q e ∙ routine_member static at blocks java.OfConstructor (identifier_at ts) ps ss
+    → IsDeclaration (named_declaration ts (values.Declared (values.Routine ps ss))) (text_of ts ∷ t) true
+constructor_shown ts ps ss t e static q at blocks = ap (λ x. text_of ts ∷ x) e ∙ routine_member static at blocks java.OfConstructor (identifier_at ts) ps ss

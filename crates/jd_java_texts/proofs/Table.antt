@@ -23,22 +23,22 @@ use Rattle.jd_java_values.specs.Heads.{type_at, int_type}
 use Rattle.jd_java_expressions.specs.Meaning.{behind_two, behind_one, all_suffixes}
 use Rattle.jd_java_statements.specs.Meaning.{variables, loop_block}
 use Rattle.jd_java_trees.specs.Meaning.{action_of, meaning_by}
-use Rattle.jd_java_texts.specs.Texts.{Texts, prefix_text, separated, exprs_texts, optional_texts, value_texts, declarator_texts, for_start_texts, target_texts, stmt_texts, members_texts, parent_texts, class_texts}
-use Rattle.jd_java_texts.specs.Kept.{rest, first_there, production_texts, IsProperNode}
+use Rattle.jd_java_texts.specs.Texts.{prefix_text, separated, exprs_texts, optional_texts, value_texts, declarator_texts, for_start_texts, target_texts, stmt_texts, members_texts, parent_texts, class_texts}
+use Rattle.jd_java_texts.specs.Kept.{rest, first_there, NodeTexts, no_texts, node_texts, IsProperNode}
 use Rattle.jd_java_texts.proofs.Frames.{int_cast_texts, behind_parenthesis_texts, call_texts, behind_name_texts, behind_start_name_texts, else_texts, Shown}
-use Rattle.jd_java_texts.proofs.Shapes.{two, four, expr_text, name_text, type_text, stmt_text, block_text, two_behind, third_behind, second_before, second_behind, first_before, none_behind, operand, this_operand, inside_operand, name_operand, begun_shown, name_effect_shown, infix_behind, instance_behind, assigned_behind, choice_behind, member_behind, element_behind, parenthesized, int_cast_shown, cast_shown, object_shown, array_shown, first_argument, next_argument, first_effect, int_type_text, variables_text, variables_shown, more_variables, local_text, start_text, named_shown, named_start_shown, name_effect_behind, name_effects_behind, annotated_shown, if_shown, up_to_signs, try_shown, handlers_shown, rescue_shown, finally_shown, handler_shown, next_statement, super_shown, either_static, annotated_body_text, members_shown, negated_text, first_parameter, next_parameter, routine_text, void_shown, typed_shown, int_shown, constructor_shown}
+use Rattle.jd_java_texts.proofs.Shapes.{two, four, expr_text, name_text, type_text, stmt_text, block_text, two_behind, third_behind, second_before, second_behind, first_before, none_behind, operand, this_operand, inside_operand, name_operand, begun_shown, name_effect_shown, infix_behind, instance_behind, assigned_behind, choice_behind, member_behind, element_behind, parenthesized, int_cast_shown, cast_shown, object_shown, array_shown, first_argument, next_argument, first_effect, int_type_text, variables_text, variables_shown, more_variables, local_text, start_text, named_shown, named_start_shown, name_effect_behind, name_effects_behind, annotated_shown, if_shown, up_to_signs, try_shown, handlers_shown, rescue_shown, finally_shown, handler_shown, next_statement, super_shown, either_static, annotated_body_text, member_shown, members_shown, negated_text, first_parameter, next_parameter, routine_text, void_shown, typed_shown, int_shown, constructor_shown}
 
 -- the parts of a node show what their names say, and there are no others
-abbrev pub Fits : List Symbol → NodeParts PlainValue → NodeParts Texts → Type 0
+abbrev pub Fits : List Symbol → NodeParts PlainValue → NodeParts NodeTexts → Type 0
 Fits [] parts us = (parts.first ≡ values.Nothing) × (parts.second ≡ values.Nothing) × (parts.third ≡ values.Nothing) × (parts.fourth ≡ values.Nothing)
 Fits (Token kind ∷ ss) parts us = Fits ss parts us
-Fits (Name a ∷ ss) parts us = Shown a parts.first us.first × Fits ss (rest values.Nothing parts) (rest [] us)
+Fits (Name a ∷ ss) parts us = Shown a parts.first us.first × Fits ss (rest values.Nothing parts) (rest no_texts us)
 
 -- then so does a node of that production
 abbrev pub Shows : ℕ → Production → Type 0
 Shows n r =
-    (ts : List PlainLexeme) (parts : NodeParts PlainValue) (us : NodeParts Texts) → Fits r.body parts us → IsProperNode (action_of n) parts
-    → Shown r.head (meaning_by (action_of n) ts parts) (production_texts r ts us)
+    (ts : List PlainLexeme) (parts : NodeParts PlainValue) (us : NodeParts NodeTexts) → Fits r.body parts us → IsProperNode (action_of n) parts
+    → Shown r.head (meaning_by (action_of n) ts parts) (node_texts r ts us)
 
 abbrev pub Each : ℕ → List Production → Type 0
 Each n [] = Unit {0}
@@ -48,9 +48,9 @@ Each n (r ∷ rs) = Shows n r × Each (n + 1) rs
 
 from_suffixes : Each 218 (drop 218 java_productions)
 from_suffixes = (
-  λ ts parts us h q. member_behind parts.first parts.second us.first us.second us.third (behind_two parts) h.0 h.1.0 (third_behind parts us.third h.1.1.0 h.1.1.1.0),
+  λ ts parts us h q. member_behind parts.first parts.second us.first.texts us.second.texts us.third.texts (behind_two parts) h.0 h.1.0 (third_behind parts us.third.texts h.1.1.0 h.1.1.1.0),
   (
-    λ ts parts us h q. element_behind parts.first us.first us.second (behind_one parts) h.0 (second_behind parts us.second h.1.0 h.1.1.0 h.1.1.1),
+    λ ts parts us h q. element_behind parts.first us.first.texts us.second.texts (behind_one parts) h.0 (second_behind parts us.second.texts h.1.0 h.1.1.0 h.1.1.1),
     (
       λ ts parts us h q. none_behind parts h.0 h.1 h.2 h.3,
       (
@@ -72,7 +72,7 @@ from_suffixes = (
 
 from_array_member : Each 211 (drop 211 java_productions)
 from_array_member = (
-  λ ts parts us h q. member_behind parts.first parts.second us.first us.second us.third (behind_two parts) h.0 h.1.0 (third_behind parts us.third h.1.1.0 h.1.1.1.0),
+  λ ts parts us h q. member_behind parts.first parts.second us.first.texts us.second.texts us.third.texts (behind_two parts) h.0 h.1.0 (third_behind parts us.third.texts h.1.1.0 h.1.1.1.0),
   (
     λ ts parts us h q. (let (es, is, et) = h.0 in ap (λ t. codes "(" ∷ t) et ∙ sym (ap (λ v. call_texts (arguments_of v)) is)),
     (
@@ -80,9 +80,9 @@ from_array_member = (
       (
         λ ts parts us h q. (_, refl, refl),
         (
-          λ ts parts us h q. first_argument parts.first parts.second us.first us.second h.0 h.1.0,
+          λ ts parts us h q. first_argument parts.first parts.second us.first.texts us.second.texts h.0 h.1.0,
           (
-            λ ts parts us h q. next_argument parts.first parts.second us.first us.second h.0 h.1.0,
+            λ ts parts us h q. next_argument parts.first parts.second us.first.texts us.second.texts h.0 h.1.0,
             (
               λ ts parts us h q. (_, refl, refl),
               from_suffixes,
@@ -104,11 +104,11 @@ from_literal = (
       (
         λ ts parts us h q. (_, refl, refl),
         (
-          λ ts parts us h q. object_shown parts.first parts.second us.first us.second (us.third ++ us.fourth) (behind_two parts) h.0 h.1.0 (two_behind parts us.third us.fourth h.1.1.0 h.1.1.1.0),
+          λ ts parts us h q. object_shown parts.first parts.second us.first.texts us.second.texts (us.third.texts ++ us.fourth.texts) (behind_two parts) h.0 h.1.0 (two_behind parts us.third.texts us.fourth.texts h.1.1.0 h.1.1.1.0),
           (
-            λ ts parts us h q. array_shown parts.first us.first us.second (behind_one parts) h.0 (second_behind parts us.second h.1.0 h.1.1.0 h.1.1.1),
+            λ ts parts us h q. array_shown parts.first us.first.texts us.second.texts (behind_one parts) h.0 (second_behind parts us.second.texts h.1.0 h.1.1.0 h.1.1.1),
             (
-              λ ts parts us h q. (first_before parts us.first us.second h.0 (second_behind parts us.second h.1.0 h.1.1.0 h.1.1.1)),
+              λ ts parts us h q. (first_before parts us.first.texts us.second.texts h.0 (second_behind parts us.second.texts h.1.0 h.1.1.0 h.1.1.1)),
               (
                 λ ts parts us h q. none_behind parts h.0 h.1 h.2 h.3,
                 from_array_member,
@@ -123,27 +123,27 @@ from_literal = (
 
 from_unsigned : Each 192 (drop 192 java_productions)
 from_unsigned = (
-  λ ts parts us h q. name_operand (place_of 0 ts) (text_of ts) parts.first us.first (us.second ++ us.third) (behind_one parts) h.0 (second_before parts us.second us.third h.1.0 (third_behind parts us.third h.1.1.0 h.1.1.1.0)),
+  λ ts parts us h q. name_operand (place_of 0 ts) (text_of ts) parts.first us.first.texts (us.second.texts ++ us.third.texts) (behind_one parts) h.0 (second_before parts us.second.texts us.third.texts h.1.0 (third_behind parts us.third.texts h.1.1.0 h.1.1.1.0)),
   (
-    λ ts parts us h q. operand parts.first us.first (us.second ++ us.third) (behind_one parts) h.0 (second_before parts us.second us.third h.1.0 (third_behind parts us.third h.1.1.0 h.1.1.1.0)),
+    λ ts parts us h q. operand parts.first us.first.texts (us.second.texts ++ us.third.texts) (behind_one parts) h.0 (second_before parts us.second.texts us.third.texts h.1.0 (third_behind parts us.third.texts h.1.1.0 h.1.1.1.0)),
     (
-      λ ts parts us h q. this_operand (place_of 0 ts) (us.first ++ us.second) (all_suffixes parts) (first_before parts us.first us.second h.0 (second_behind parts us.second h.1.0 h.1.1.0 h.1.1.1)),
+      λ ts parts us h q. this_operand (place_of 0 ts) (us.first.texts ++ us.second.texts) (all_suffixes parts) (first_before parts us.first.texts us.second.texts h.0 (second_behind parts us.second.texts h.1.0 h.1.1.0 h.1.1.1)),
       (
-        λ ts parts us h q. begun_shown (place_of 0 ts) (codes "new") parts.first us.first h.0,
+        λ ts parts us h q. begun_shown (place_of 0 ts) (codes "new") parts.first us.first.texts h.0,
         (
-          λ ts parts us h q. int_cast_shown ts parts.first us.first h.0,
+          λ ts parts us h q. int_cast_shown ts parts.first us.first.texts h.0,
           (
-            λ ts parts us h q. cast_shown (type_at ts BooleanType) parts.first us.first (codes "boolean" ∷ codes ")" ∷ []) refl h.0,
+            λ ts parts us h q. cast_shown (type_at ts BooleanType) parts.first us.first.texts (codes "boolean" ∷ codes ")" ∷ []) refl h.0,
             (
-              λ ts parts us h q. parenthesized parts.first parts.second us.first us.second h.0 h.1.0 q,
+              λ ts parts us h q. parenthesized parts.first parts.second us.first.texts us.second.texts h.0 h.1.0 q,
               (
                 λ ts parts us h q. (let (e, is, et) = h.0 in ap (λ t. codes ")" ∷ t) et ∙ sym (ap int_cast_texts is)),
                 (
-                  λ ts parts us h q. ap (λ t. codes "[" ∷ codes "]" ∷ codes ")" ∷ t) (expr_text parts.first us.first h.0),
+                  λ ts parts us h q. ap (λ t. codes "[" ∷ codes "]" ∷ codes ")" ∷ t) (expr_text parts.first us.first.texts h.0),
                   (
                     λ ts parts us h q. (let (e, is, et) = h.0 in et ∙ sym (ap behind_parenthesis_texts is)),
                     (
-                      λ ts parts us h q. (first_before parts us.first us.second h.0 (second_behind parts us.second h.1.0 h.1.1.0 h.1.1.1)),
+                      λ ts parts us h q. (first_before parts us.first.texts us.second.texts h.0 (second_behind parts us.second.texts h.1.0 h.1.1.0 h.1.1.1)),
                       from_literal,
                     ),
                   ),
@@ -159,13 +159,13 @@ from_unsigned = (
 
 from_unary : Each 183 (drop 183 java_productions)
 from_unary = (
-  λ ts parts us h q. (_, refl, ap (λ t. prefix_text prefixes.Plus ∷ t) (expr_text parts.first us.first h.0)),
+  λ ts parts us h q. (_, refl, ap (λ t. prefix_text prefixes.Plus ∷ t) (expr_text parts.first us.first.texts h.0)),
   (
-    λ ts parts us h q. (_, refl, ap (λ t. prefix_text prefixes.Minus ∷ t) (expr_text parts.first us.first h.0)),
+    λ ts parts us h q. (_, refl, ap (λ t. prefix_text prefixes.Minus ∷ t) (expr_text parts.first us.first.texts h.0)),
     (
-      λ ts parts us h q. (_, refl, ap (λ t. prefix_text (prefixes.Count counts.Increment) ∷ t) (expr_text parts.first us.first h.0)),
+      λ ts parts us h q. (_, refl, ap (λ t. prefix_text (prefixes.Count counts.Increment) ∷ t) (expr_text parts.first us.first.texts h.0)),
       (
-        λ ts parts us h q. (_, refl, ap (λ t. prefix_text (prefixes.Count counts.Decrement) ∷ t) (expr_text parts.first us.first h.0)),
+        λ ts parts us h q. (_, refl, ap (λ t. prefix_text (prefixes.Count counts.Decrement) ∷ t) (expr_text parts.first us.first.texts h.0)),
         (
           λ ts parts us h q. h.0,
           (
@@ -173,9 +173,9 @@ from_unary = (
             (
               λ ts parts us h q. h.0,
               (
-                λ ts parts us h q. (_, refl, ap (λ t. prefix_text prefixes.Not ∷ t) (expr_text parts.first us.first h.0)),
+                λ ts parts us h q. (_, refl, ap (λ t. prefix_text prefixes.Not ∷ t) (expr_text parts.first us.first.texts h.0)),
                 (
-                  λ ts parts us h q. begun_shown (place_of 0 ts) (codes "(") parts.first us.first h.0,
+                  λ ts parts us h q. begun_shown (place_of 0 ts) (codes "(") parts.first us.first.texts h.0,
                   from_unsigned,
                 ),
               ),
@@ -193,21 +193,21 @@ from_reference_type = (
   (
     λ ts parts us h q. (_, refl, refl),
     (
-      λ ts parts us h q. operand parts.first us.first us.second (behind_one parts) h.0 (second_behind parts us.second h.1.0 h.1.1.0 h.1.1.1),
+      λ ts parts us h q. operand parts.first us.first.texts us.second.texts (behind_one parts) h.0 (second_behind parts us.second.texts h.1.0 h.1.1.0 h.1.1.1),
       (
-        λ ts parts us h q. infix_behind infixes.Add parts.first us.first us.second (behind_one parts) h.0 (second_behind parts us.second h.1.0 h.1.1.0 h.1.1.1),
+        λ ts parts us h q. infix_behind infixes.Add parts.first us.first.texts us.second.texts (behind_one parts) h.0 (second_behind parts us.second.texts h.1.0 h.1.1.0 h.1.1.1),
         (
-          λ ts parts us h q. infix_behind infixes.Subtract parts.first us.first us.second (behind_one parts) h.0 (second_behind parts us.second h.1.0 h.1.1.0 h.1.1.1),
+          λ ts parts us h q. infix_behind infixes.Subtract parts.first us.first.texts us.second.texts (behind_one parts) h.0 (second_behind parts us.second.texts h.1.0 h.1.1.0 h.1.1.1),
           (
             λ ts parts us h q. none_behind parts h.0 h.1 h.2 h.3,
             (
-              λ ts parts us h q. operand parts.first us.first us.second (behind_one parts) h.0 (second_behind parts us.second h.1.0 h.1.1.0 h.1.1.1),
+              λ ts parts us h q. operand parts.first us.first.texts us.second.texts (behind_one parts) h.0 (second_behind parts us.second.texts h.1.0 h.1.1.0 h.1.1.1),
               (
-                λ ts parts us h q. infix_behind infixes.Multiply parts.first us.first us.second (behind_one parts) h.0 (second_behind parts us.second h.1.0 h.1.1.0 h.1.1.1),
+                λ ts parts us h q. infix_behind infixes.Multiply parts.first us.first.texts us.second.texts (behind_one parts) h.0 (second_behind parts us.second.texts h.1.0 h.1.1.0 h.1.1.1),
                 (
-                  λ ts parts us h q. infix_behind infixes.Divide parts.first us.first us.second (behind_one parts) h.0 (second_behind parts us.second h.1.0 h.1.1.0 h.1.1.1),
+                  λ ts parts us h q. infix_behind infixes.Divide parts.first us.first.texts us.second.texts (behind_one parts) h.0 (second_behind parts us.second.texts h.1.0 h.1.1.0 h.1.1.1),
                   (
-                    λ ts parts us h q. infix_behind infixes.Remainder parts.first us.first us.second (behind_one parts) h.0 (second_behind parts us.second h.1.0 h.1.1.0 h.1.1.1),
+                    λ ts parts us h q. infix_behind infixes.Remainder parts.first us.first.texts us.second.texts (behind_one parts) h.0 (second_behind parts us.second.texts h.1.0 h.1.1.0 h.1.1.1),
                     (
                       λ ts parts us h q. none_behind parts h.0 h.1 h.2 h.3,
                       from_unary,
@@ -225,25 +225,25 @@ from_reference_type = (
 
 from_equality : Each 161 (drop 161 java_productions)
 from_equality = (
-  λ ts parts us h q. operand parts.first us.first us.second (behind_one parts) h.0 (second_behind parts us.second h.1.0 h.1.1.0 h.1.1.1),
+  λ ts parts us h q. operand parts.first us.first.texts us.second.texts (behind_one parts) h.0 (second_behind parts us.second.texts h.1.0 h.1.1.0 h.1.1.1),
   (
-    λ ts parts us h q. infix_behind infixes.Equal parts.first us.first us.second (behind_one parts) h.0 (second_behind parts us.second h.1.0 h.1.1.0 h.1.1.1),
+    λ ts parts us h q. infix_behind infixes.Equal parts.first us.first.texts us.second.texts (behind_one parts) h.0 (second_behind parts us.second.texts h.1.0 h.1.1.0 h.1.1.1),
     (
-      λ ts parts us h q. infix_behind infixes.NotEqual parts.first us.first us.second (behind_one parts) h.0 (second_behind parts us.second h.1.0 h.1.1.0 h.1.1.1),
+      λ ts parts us h q. infix_behind infixes.NotEqual parts.first us.first.texts us.second.texts (behind_one parts) h.0 (second_behind parts us.second.texts h.1.0 h.1.1.0 h.1.1.1),
       (
         λ ts parts us h q. none_behind parts h.0 h.1 h.2 h.3,
         (
-          λ ts parts us h q. operand parts.first us.first us.second (behind_one parts) h.0 (second_behind parts us.second h.1.0 h.1.1.0 h.1.1.1),
+          λ ts parts us h q. operand parts.first us.first.texts us.second.texts (behind_one parts) h.0 (second_behind parts us.second.texts h.1.0 h.1.1.0 h.1.1.1),
           (
-            λ ts parts us h q. infix_behind infixes.Less parts.first us.first us.second (behind_one parts) h.0 (second_behind parts us.second h.1.0 h.1.1.0 h.1.1.1),
+            λ ts parts us h q. infix_behind infixes.Less parts.first us.first.texts us.second.texts (behind_one parts) h.0 (second_behind parts us.second.texts h.1.0 h.1.1.0 h.1.1.1),
             (
-              λ ts parts us h q. infix_behind infixes.LessOrEqual parts.first us.first us.second (behind_one parts) h.0 (second_behind parts us.second h.1.0 h.1.1.0 h.1.1.1),
+              λ ts parts us h q. infix_behind infixes.LessOrEqual parts.first us.first.texts us.second.texts (behind_one parts) h.0 (second_behind parts us.second.texts h.1.0 h.1.1.0 h.1.1.1),
               (
-                λ ts parts us h q. infix_behind infixes.Greater parts.first us.first us.second (behind_one parts) h.0 (second_behind parts us.second h.1.0 h.1.1.0 h.1.1.1),
+                λ ts parts us h q. infix_behind infixes.Greater parts.first us.first.texts us.second.texts (behind_one parts) h.0 (second_behind parts us.second.texts h.1.0 h.1.1.0 h.1.1.1),
                 (
-                  λ ts parts us h q. infix_behind infixes.GreaterOrEqual parts.first us.first us.second (behind_one parts) h.0 (second_behind parts us.second h.1.0 h.1.1.0 h.1.1.1),
+                  λ ts parts us h q. infix_behind infixes.GreaterOrEqual parts.first us.first.texts us.second.texts (behind_one parts) h.0 (second_behind parts us.second.texts h.1.0 h.1.1.0 h.1.1.1),
                   (
-                    λ ts parts us h q. instance_behind parts.first us.first us.second (behind_one parts) h.0 (second_behind parts us.second h.1.0 h.1.1.0 h.1.1.1),
+                    λ ts parts us h q. instance_behind parts.first us.first.texts us.second.texts (behind_one parts) h.0 (second_behind parts us.second.texts h.1.0 h.1.1.0 h.1.1.1),
                     (
                       λ ts parts us h q. none_behind parts h.0 h.1 h.2 h.3,
                       from_reference_type,
@@ -261,21 +261,21 @@ from_equality = (
 
 from_conditional : Each 152 (drop 152 java_productions)
 from_conditional = (
-  λ ts parts us h q. operand parts.first us.first us.second (behind_one parts) h.0 (second_behind parts us.second h.1.0 h.1.1.0 h.1.1.1),
+  λ ts parts us h q. operand parts.first us.first.texts us.second.texts (behind_one parts) h.0 (second_behind parts us.second.texts h.1.0 h.1.1.0 h.1.1.1),
   (
-    λ ts parts us h q. choice_behind parts.first parts.second us.first us.second h.0 h.1.0,
+    λ ts parts us h q. choice_behind parts.first parts.second us.first.texts us.second.texts h.0 h.1.0,
     (
       λ ts parts us h q. none_behind parts h.0 h.1 h.2 h.3,
       (
-        λ ts parts us h q. operand parts.first us.first us.second (behind_one parts) h.0 (second_behind parts us.second h.1.0 h.1.1.0 h.1.1.1),
+        λ ts parts us h q. operand parts.first us.first.texts us.second.texts (behind_one parts) h.0 (second_behind parts us.second.texts h.1.0 h.1.1.0 h.1.1.1),
         (
-          λ ts parts us h q. infix_behind infixes.OrElse parts.first us.first us.second (behind_one parts) h.0 (second_behind parts us.second h.1.0 h.1.1.0 h.1.1.1),
+          λ ts parts us h q. infix_behind infixes.OrElse parts.first us.first.texts us.second.texts (behind_one parts) h.0 (second_behind parts us.second.texts h.1.0 h.1.1.0 h.1.1.1),
           (
             λ ts parts us h q. none_behind parts h.0 h.1 h.2 h.3,
             (
-              λ ts parts us h q. operand parts.first us.first us.second (behind_one parts) h.0 (second_behind parts us.second h.1.0 h.1.1.0 h.1.1.1),
+              λ ts parts us h q. operand parts.first us.first.texts us.second.texts (behind_one parts) h.0 (second_behind parts us.second.texts h.1.0 h.1.1.0 h.1.1.1),
               (
-                λ ts parts us h q. infix_behind infixes.AndAlso parts.first us.first us.second (behind_one parts) h.0 (second_behind parts us.second h.1.0 h.1.1.0 h.1.1.1),
+                λ ts parts us h q. infix_behind infixes.AndAlso parts.first us.first.texts us.second.texts (behind_one parts) h.0 (second_behind parts us.second.texts h.1.0 h.1.1.0 h.1.1.1),
                 (
                   λ ts parts us h q. none_behind parts h.0 h.1 h.2 h.3,
                   from_equality,
@@ -291,19 +291,19 @@ from_conditional = (
 
 from_expression : Each 144 (drop 144 java_productions)
 from_expression = (
-  λ ts parts us h q. operand parts.first us.first us.second (behind_one parts) h.0 (second_behind parts us.second h.1.0 h.1.1.0 h.1.1.1),
+  λ ts parts us h q. operand parts.first us.first.texts us.second.texts (behind_one parts) h.0 (second_behind parts us.second.texts h.1.0 h.1.1.0 h.1.1.1),
   (
-    λ ts parts us h q. assigned_behind assignments.Set parts.first us.first h.0,
+    λ ts parts us h q. assigned_behind assignments.Set parts.first us.first.texts h.0,
     (
-      λ ts parts us h q. assigned_behind assignments.Add parts.first us.first h.0,
+      λ ts parts us h q. assigned_behind assignments.Add parts.first us.first.texts h.0,
       (
-        λ ts parts us h q. assigned_behind assignments.Subtract parts.first us.first h.0,
+        λ ts parts us h q. assigned_behind assignments.Subtract parts.first us.first.texts h.0,
         (
-          λ ts parts us h q. assigned_behind assignments.Multiply parts.first us.first h.0,
+          λ ts parts us h q. assigned_behind assignments.Multiply parts.first us.first.texts h.0,
           (
-            λ ts parts us h q. assigned_behind assignments.Divide parts.first us.first h.0,
+            λ ts parts us h q. assigned_behind assignments.Divide parts.first us.first.texts h.0,
             (
-              λ ts parts us h q. assigned_behind assignments.Remainder parts.first us.first h.0,
+              λ ts parts us h q. assigned_behind assignments.Remainder parts.first us.first.texts h.0,
               (
                 λ ts parts us h q. none_behind parts h.0 h.1 h.2 h.3,
                 from_conditional,
@@ -318,25 +318,25 @@ from_expression = (
 
 from_effect_creation : Each 133 (drop 133 java_productions)
 from_effect_creation = (
-  λ ts parts us h q. object_shown parts.first parts.second us.first us.second (us.third ++ us.fourth) (behind_two parts) h.0 h.1.0 (two_behind parts us.third us.fourth h.1.1.0 h.1.1.1.0),
+  λ ts parts us h q. object_shown parts.first parts.second us.first.texts us.second.texts (us.third.texts ++ us.fourth.texts) (behind_two parts) h.0 h.1.0 (two_behind parts us.third.texts us.fourth.texts h.1.1.0 h.1.1.1.0),
   (
-    λ ts parts us h q. array_shown parts.first us.first (us.second ++ us.third) (behind_one parts) h.0 (second_before parts us.second us.third h.1.0 (third_behind parts us.third h.1.1.0 h.1.1.1.0)),
+    λ ts parts us h q. array_shown parts.first us.first.texts (us.second.texts ++ us.third.texts) (behind_one parts) h.0 (second_before parts us.second.texts us.third.texts h.1.0 (third_behind parts us.third.texts h.1.1.0 h.1.1.1.0)),
     (
       λ ts parts us h q. refl,
       (
         λ ts parts us h q. refl,
         (
-          λ ts parts us h q. assigned_behind assignments.Set parts.first us.first h.0,
+          λ ts parts us h q. assigned_behind assignments.Set parts.first us.first.texts h.0,
           (
-            λ ts parts us h q. assigned_behind assignments.Add parts.first us.first h.0,
+            λ ts parts us h q. assigned_behind assignments.Add parts.first us.first.texts h.0,
             (
-              λ ts parts us h q. assigned_behind assignments.Subtract parts.first us.first h.0,
+              λ ts parts us h q. assigned_behind assignments.Subtract parts.first us.first.texts h.0,
               (
-                λ ts parts us h q. assigned_behind assignments.Multiply parts.first us.first h.0,
+                λ ts parts us h q. assigned_behind assignments.Multiply parts.first us.first.texts h.0,
                 (
-                  λ ts parts us h q. assigned_behind assignments.Divide parts.first us.first h.0,
+                  λ ts parts us h q. assigned_behind assignments.Divide parts.first us.first.texts h.0,
                   (
-                    λ ts parts us h q. assigned_behind assignments.Remainder parts.first us.first h.0,
+                    λ ts parts us h q. assigned_behind assignments.Remainder parts.first us.first.texts h.0,
                     (
                       λ ts parts us h q. none_behind parts h.0 h.1 h.2 h.3,
                       from_expression,
@@ -354,23 +354,23 @@ from_effect_creation = (
 
 from_effect : Each 124 (drop 124 java_productions)
 from_effect = (
-  λ ts parts us h q. name_effect_shown (place_of 0 ts) (text_of ts) parts.first us.first h.0,
+  λ ts parts us h q. name_effect_shown (place_of 0 ts) (text_of ts) parts.first us.first.texts h.0,
   (
     λ ts parts us h q. h.0,
     (
-      λ ts parts us h q. (_, _, refl, two (λ x y. x ++ y) h.0 (second_before parts us.second us.third h.1.0 (third_behind parts us.third h.1.1.0 h.1.1.1.0))),
+      λ ts parts us h q. (_, _, refl, two (λ x y. x ++ y) h.0 (second_before parts us.second.texts us.third.texts h.1.0 (third_behind parts us.third.texts h.1.1.0 h.1.1.1.0))),
       (
-        λ ts parts us h q. (_, refl, ap (λ t. prefix_text (prefixes.Count counts.Increment) ∷ t) (expr_text parts.first us.first h.0)),
+        λ ts parts us h q. (_, refl, ap (λ t. prefix_text (prefixes.Count counts.Increment) ∷ t) (expr_text parts.first us.first.texts h.0)),
         (
-          λ ts parts us h q. (_, refl, ap (λ t. prefix_text (prefixes.Count counts.Decrement) ∷ t) (expr_text parts.first us.first h.0)),
+          λ ts parts us h q. (_, refl, ap (λ t. prefix_text (prefixes.Count counts.Decrement) ∷ t) (expr_text parts.first us.first.texts h.0)),
           (
-            λ ts parts us h q. operand parts.first us.first (us.second ++ us.third) (behind_one parts) h.0 (second_before parts us.second us.third h.1.0 (third_behind parts us.third h.1.1.0 h.1.1.1.0)),
+            λ ts parts us h q. operand parts.first us.first.texts (us.second.texts ++ us.third.texts) (behind_one parts) h.0 (second_before parts us.second.texts us.third.texts h.1.0 (third_behind parts us.third.texts h.1.1.0 h.1.1.1.0)),
             (
-              λ ts parts us h q. this_operand (place_of 0 ts) (us.first ++ us.second) (all_suffixes parts) (first_before parts us.first us.second h.0 (second_behind parts us.second h.1.0 h.1.1.0 h.1.1.1)),
+              λ ts parts us h q. this_operand (place_of 0 ts) (us.first.texts ++ us.second.texts) (all_suffixes parts) (first_before parts us.first.texts us.second.texts h.0 (second_behind parts us.second.texts h.1.0 h.1.1.0 h.1.1.1)),
               (
-                λ ts parts us h q. inside_operand (place_of 0 ts) parts.first us.first (us.second ++ us.third) (behind_one parts) h.0 (second_before parts us.second us.third h.1.0 (third_behind parts us.third h.1.1.0 h.1.1.1.0)),
+                λ ts parts us h q. inside_operand (place_of 0 ts) parts.first us.first.texts (us.second.texts ++ us.third.texts) (behind_one parts) h.0 (second_before parts us.second.texts us.third.texts h.1.0 (third_behind parts us.third.texts h.1.1.0 h.1.1.1.0)),
                 (
-                  λ ts parts us h q. begun_shown (place_of 0 ts) (codes "new") parts.first us.first h.0,
+                  λ ts parts us h q. begun_shown (place_of 0 ts) (codes "new") parts.first us.first.texts h.0,
                   from_effect_creation,
                 ),
               ),
@@ -384,21 +384,21 @@ from_effect = (
 
 from_rescue : Each 115 (drop 115 java_productions)
 from_rescue = (
-  λ ts parts us h q. rescue_shown parts.first parts.second parts.third us.first us.second us.third h.0 h.1.0 h.1.1.0,
+  λ ts parts us h q. rescue_shown parts.first parts.second parts.third us.first.texts us.second.texts us.third.texts h.0 h.1.0 h.1.1.0,
   (
-    λ ts parts us h q. (_, _, refl, finally_shown parts.first us.first h.0),
+    λ ts parts us h q. (_, _, refl, finally_shown parts.first us.first.texts h.0),
     (
-      λ ts parts us h q. handlers_shown parts.first parts.second us.first us.second h.0 h.1.0,
+      λ ts parts us h q. handlers_shown parts.first parts.second us.first.texts us.second.texts h.0 h.1.0,
       (
         λ ts parts us h q. refl,
         (
-          λ ts parts us h q. handler_shown (place_of 0 ts) parts.second parts.third parts.fourth us.first us.second us.third us.fourth h.0 h.1.0 h.1.1.0 h.1.1.1.0,
+          λ ts parts us h q. handler_shown (place_of 0 ts) parts.second parts.third parts.fourth us.first.texts us.second.texts us.third.texts us.fourth.texts h.0 h.1.0 h.1.1.0 h.1.1.1.0,
           (
             λ ts parts us h q. refl,
             (
               λ ts parts us h q. refl,
               (
-                λ ts parts us h q. finally_shown parts.first us.first h.0,
+                λ ts parts us h q. finally_shown parts.first us.first.texts h.0,
                 (
                   λ ts parts us h q. refl,
                   from_effect,
@@ -416,9 +416,9 @@ from_for_update : Each 107 (drop 107 java_productions)
 from_for_update = (
   λ ts parts us h q. refl,
   (
-    λ ts parts us h q. first_effect (codes ")") parts.first parts.second us.first us.second h.0 h.1.0,
+    λ ts parts us h q. first_effect (codes ")") parts.first parts.second us.first.texts us.second.texts h.0 h.1.0,
     (
-      λ ts parts us h q. two (λ x y. codes "," ∷ (x ++ y)) (expr_text parts.first us.first h.0) h.1.0,
+      λ ts parts us h q. two (λ x y. codes "," ∷ (x ++ y)) (expr_text parts.first us.first.texts h.0) h.1.0,
       (
         λ ts parts us h q. refl,
         (
@@ -443,17 +443,17 @@ from_for_init : Each 98 (drop 98 java_productions)
 from_for_init = (
   λ ts parts us h q. refl,
   (
-    λ ts parts us h q. start_text (type_at ts (int_type (is_dimension parts.first))) (separated (map declarator_texts (variables parts.second parts.third parts.fourth))) (codes "int" ∷ us.first) (us.second ++ (us.third ++ (us.fourth ++ codes ";" ∷ []))) (ap (λ t. codes "int" ∷ t) h.0 ∙ int_type_text (is_dimension parts.first)) (variables_text (codes ";" ∷ []) parts.second parts.third parts.fourth us.second us.third us.fourth h.1.0 h.1.1.0 h.1.1.1.0),
+    λ ts parts us h q. start_text (type_at ts (int_type (is_dimension parts.first))) (separated (map declarator_texts (variables parts.second parts.third parts.fourth))) (codes "int" ∷ us.first.texts) (us.second.texts ++ (us.third.texts ++ (us.fourth.texts ++ codes ";" ∷ []))) (ap (λ t. codes "int" ∷ t) h.0 ∙ int_type_text (is_dimension parts.first)) (variables_text (codes ";" ∷ []) parts.second parts.third parts.fourth us.second.texts us.third.texts us.fourth.texts h.1.0 h.1.1.0 h.1.1.1.0),
     (
-      λ ts parts us h q. start_text (type_at ts BooleanType) (separated (map declarator_texts (variables parts.first parts.second parts.third))) (codes "boolean" ∷ []) (us.first ++ (us.second ++ (us.third ++ codes ";" ∷ []))) refl (variables_text (codes ";" ∷ []) parts.first parts.second parts.third us.first us.second us.third h.0 h.1.0 h.1.1.0),
+      λ ts parts us h q. start_text (type_at ts BooleanType) (separated (map declarator_texts (variables parts.first parts.second parts.third))) (codes "boolean" ∷ []) (us.first.texts ++ (us.second.texts ++ (us.third.texts ++ codes ";" ∷ []))) refl (variables_text (codes ";" ∷ []) parts.first parts.second parts.third us.first.texts us.second.texts us.third.texts h.0 h.1.0 h.1.1.0),
       (
-        λ ts parts us h q. named_start_shown (place_of 0 ts) (text_of ts) parts.first us.first h.0,
+        λ ts parts us h q. named_start_shown (place_of 0 ts) (text_of ts) parts.first us.first.texts h.0,
         (
-          λ ts parts us h q. first_effect (codes ";") parts.first parts.second us.first us.second h.0 h.1.0,
+          λ ts parts us h q. first_effect (codes ";") parts.first parts.second us.first.texts us.second.texts h.0 h.1.0,
           (
             λ ts parts us h q. (let (ds, is, et) = h.0 in ap (λ t. t ++ codes ";" ∷ []) et ∙ sym (ap behind_start_name_texts is)),
             (
-              λ ts parts us h q. name_effects_behind parts.first us.first us.second (expressions_of parts.second) h.0 h.1.0,
+              λ ts parts us h q. name_effects_behind parts.first us.first.texts us.second.texts (expressions_of parts.second) h.0 h.1.0,
               (
                 λ ts parts us h q. refl,
                 (
@@ -475,15 +475,15 @@ from_else = (
   (
     λ ts parts us h q. refl,
     (
-      λ ts parts us h q. (_, refl, two (λ x y. codes "while" ∷ codes "(" ∷ (x ++ codes ")" ∷ y)) (expr_text parts.first us.first h.0) (stmt_text parts.second us.second h.1.0)),
+      λ ts parts us h q. (_, refl, two (λ x y. codes "while" ∷ codes "(" ∷ (x ++ codes ")" ∷ y)) (expr_text parts.first us.first.texts h.0) (stmt_text parts.second us.second.texts h.1.0)),
       (
-        λ ts parts us h q. (_, refl, four (λ a b c d. codes "for" ∷ codes "(" ∷ (a ++ (b ++ (c ++ d)))) h.0 h.1.0 h.1.1.0 (stmt_text parts.fourth us.fourth h.1.1.1.0) ∙ ap (λ t. codes "for" ∷ codes "(" ∷ t) (up_to_signs (for_start_texts (start_of parts.first)) (optional_texts (some_expression parts.second)) (exprs_texts (java_exprs (expressions_of parts.third))) (stmt_texts (statement_of parts.fourth)) (codes ";") (codes ";") (codes ")"))),
+        λ ts parts us h q. (_, refl, four (λ a b c d. codes "for" ∷ codes "(" ∷ (a ++ (b ++ (c ++ d)))) h.0 h.1.0 h.1.1.0 (stmt_text parts.fourth us.fourth.texts h.1.1.1.0) ∙ ap (λ t. codes "for" ∷ codes "(" ∷ t) (up_to_signs (for_start_texts (start_of parts.first)) (optional_texts (some_expression parts.second)) (exprs_texts (java_exprs (expressions_of parts.third))) (stmt_texts (statement_of parts.fourth)) (codes ";") (codes ";") (codes ")"))),
         (
           λ ts parts us h q. h.0,
           (
-            λ ts parts us h q. (_, refl, ap (λ t. text_of ts ∷ codes ":" ∷ t) (stmt_text parts.first us.first h.0)),
+            λ ts parts us h q. (_, refl, ap (λ t. text_of ts ∷ codes ":" ∷ t) (stmt_text parts.first us.first.texts h.0)),
             (
-              λ ts parts us h q. annotated_shown (loop_block ts) parts.first us.first h.0,
+              λ ts parts us h q. annotated_shown (loop_block ts) parts.first us.first.texts h.0,
               (
                 λ ts parts us h q. h.0,
                 from_for_init,
@@ -498,17 +498,17 @@ from_else = (
 
 from_statement_without_name : Each 79 (drop 79 java_productions)
 from_statement_without_name = (
-  λ ts parts us h q. (_, refl, block_text parts.first us.first h.0),
+  λ ts parts us h q. (_, refl, block_text parts.first us.first.texts h.0),
   (
     λ ts parts us h q. (_, refl, refl),
     (
-      λ ts parts us h q. (_, refl, ap (λ t. t ++ codes ";" ∷ []) (expr_text parts.first us.first h.0)),
+      λ ts parts us h q. (_, refl, ap (λ t. t ++ codes ";" ∷ []) (expr_text parts.first us.first.texts h.0)),
       (
-        λ ts parts us h q. if_shown (place_of 0 ts) parts.first parts.second parts.third us.first us.second us.third h.0 h.1.0 h.1.1.0,
+        λ ts parts us h q. if_shown (place_of 0 ts) parts.first parts.second parts.third us.first.texts us.second.texts us.third.texts h.0 h.1.0 h.1.1.0,
         (
           λ ts parts us h q. h.0,
           (
-            λ ts parts us h q. annotated_shown (loop_block ts) parts.first us.first h.0,
+            λ ts parts us h q. annotated_shown (loop_block ts) parts.first us.first.texts h.0,
             (
               λ ts parts us h q. (_, refl, ap (λ t. codes "break" ∷ (t ++ codes ";" ∷ [])) h.0),
               (
@@ -516,9 +516,9 @@ from_statement_without_name = (
                 (
                   λ ts parts us h q. (_, refl, ap (λ t. codes "return" ∷ t) h.0),
                   (
-                    λ ts parts us h q. (_, refl, ap (λ t. codes "throw" ∷ (t ++ codes ";" ∷ [])) (expr_text parts.first us.first h.0)),
+                    λ ts parts us h q. (_, refl, ap (λ t. codes "throw" ∷ (t ++ codes ";" ∷ [])) (expr_text parts.first us.first.texts h.0)),
                     (
-                      λ ts parts us h q. try_shown (place_of 0 ts) parts.first parts.second us.first us.second h.0 h.1.0,
+                      λ ts parts us h q. try_shown (place_of 0 ts) parts.first parts.second us.first.texts us.second.texts h.0 h.1.0,
                       from_else,
                     ),
                   ),
@@ -534,23 +534,23 @@ from_statement_without_name = (
 
 from_variables : Each 70 (drop 70 java_productions)
 from_variables = (
-  λ ts parts us h q. (_, refl, variables_shown parts.first parts.second parts.third us.first us.second us.third h.0 h.1.0 h.1.1.0),
+  λ ts parts us h q. (_, refl, variables_shown parts.first parts.second parts.third us.first.texts us.second.texts us.third.texts h.0 h.1.0 h.1.1.0),
   (
     λ ts parts us h q. (let (e, is, et) = h.0 in ap (λ t. codes "=" ∷ t) et ∙ sym (ap (λ v. value_texts (some_expression v)) is)),
     (
       λ ts parts us h q. refl,
       (
-        λ ts parts us h q. more_variables parts.first parts.second parts.third us.first us.second us.third h.0 h.1.0 h.1.1.0,
+        λ ts parts us h q. more_variables parts.first parts.second parts.third us.first.texts us.second.texts us.third.texts h.0 h.1.0 h.1.1.0,
         (
           λ ts parts us h q. refl,
           (
-            λ ts parts us h q. named_shown (place_of 0 ts) (text_of ts) parts.first us.first h.0,
+            λ ts parts us h q. named_shown (place_of 0 ts) (text_of ts) parts.first us.first.texts h.0,
             (
               λ ts parts us h q. h.0,
               (
                 λ ts parts us h q. (let (s, is, et) = h.0 in ap (λ t. codes ":" ∷ t) et ∙ sym (ap behind_name_texts is)),
                 (
-                  λ ts parts us h q. name_effect_behind parts.first us.first h.0,
+                  λ ts parts us h q. name_effect_behind parts.first us.first.texts h.0,
                   from_statement_without_name,
                 ),
               ),
@@ -564,13 +564,13 @@ from_variables = (
 
 from_block_statement : Each 62 (drop 62 java_productions)
 from_block_statement = (
-  λ ts parts us h q. (_, refl, local_text (type_of parts.first) (separated (map declarator_texts (variables parts.second parts.third parts.fourth))) us.first (us.second ++ (us.third ++ (us.fourth ++ codes ";" ∷ []))) (type_text parts.first us.first h.0) (variables_text (codes ";" ∷ []) parts.second parts.third parts.fourth us.second us.third us.fourth h.1.0 h.1.1.0 h.1.1.1.0)),
+  λ ts parts us h q. (_, refl, local_text (type_of parts.first) (separated (map declarator_texts (variables parts.second parts.third parts.fourth))) us.first.texts (us.second.texts ++ (us.third.texts ++ (us.fourth.texts ++ codes ";" ∷ []))) (type_text parts.first us.first.texts h.0) (variables_text (codes ";" ∷ []) parts.second parts.third parts.fourth us.second.texts us.third.texts us.fourth.texts h.1.0 h.1.1.0 h.1.1.1.0)),
   (
-    λ ts parts us h q. (_, refl, local_text (type_at ts (int_type (is_dimension parts.first))) (separated (map declarator_texts (variables parts.second parts.third parts.fourth))) (codes "int" ∷ us.first) (us.second ++ (us.third ++ (us.fourth ++ codes ";" ∷ []))) (ap (λ t. codes "int" ∷ t) h.0 ∙ int_type_text (is_dimension parts.first)) (variables_text (codes ";" ∷ []) parts.second parts.third parts.fourth us.second us.third us.fourth h.1.0 h.1.1.0 h.1.1.1.0)),
+    λ ts parts us h q. (_, refl, local_text (type_at ts (int_type (is_dimension parts.first))) (separated (map declarator_texts (variables parts.second parts.third parts.fourth))) (codes "int" ∷ us.first.texts) (us.second.texts ++ (us.third.texts ++ (us.fourth.texts ++ codes ";" ∷ []))) (ap (λ t. codes "int" ∷ t) h.0 ∙ int_type_text (is_dimension parts.first)) (variables_text (codes ";" ∷ []) parts.second parts.third parts.fourth us.second.texts us.third.texts us.fourth.texts h.1.0 h.1.1.0 h.1.1.1.0)),
     (
-      λ ts parts us h q. (_, refl, local_text (type_at ts BooleanType) (separated (map declarator_texts (variables parts.first parts.second parts.third))) (codes "boolean" ∷ []) (us.first ++ (us.second ++ (us.third ++ codes ";" ∷ []))) refl (variables_text (codes ";" ∷ []) parts.first parts.second parts.third us.first us.second us.third h.0 h.1.0 h.1.1.0)),
+      λ ts parts us h q. (_, refl, local_text (type_at ts BooleanType) (separated (map declarator_texts (variables parts.first parts.second parts.third))) (codes "boolean" ∷ []) (us.first.texts ++ (us.second.texts ++ (us.third.texts ++ codes ";" ∷ []))) refl (variables_text (codes ";" ∷ []) parts.first parts.second parts.third us.first.texts us.second.texts us.third.texts h.0 h.1.0 h.1.1.0)),
       (
-        λ ts parts us h q. named_shown (place_of 0 ts) (text_of ts) parts.first us.first h.0,
+        λ ts parts us h q. named_shown (place_of 0 ts) (text_of ts) parts.first us.first.texts h.0,
         (
           λ ts parts us h q. h.0,
           (
@@ -578,7 +578,7 @@ from_block_statement = (
             (
               λ ts parts us h q. (let (ds, is, et) = h.0 in ap (λ t. t ++ codes ";" ∷ []) et ∙ sym (ap behind_name_texts is)),
               (
-                λ ts parts us h q. name_effect_behind parts.first us.first h.0,
+                λ ts parts us h q. name_effect_behind parts.first us.first.texts h.0,
                 from_variables,
               ),
             ),
@@ -593,7 +593,7 @@ from_constructor_body : Each 56 (drop 56 java_productions)
 from_constructor_body = (
   λ ts parts us h q. (let (ss, is, et) = h.0 in (ss, is, ap (λ t. codes "{" ∷ t) et)),
   (
-    λ ts parts us h q. super_shown (place_of 0 ts) parts.first parts.second us.first us.second h.0 h.1.0,
+    λ ts parts us h q. super_shown (place_of 0 ts) parts.first parts.second us.first.texts us.second.texts h.0 h.1.0,
     (
       λ ts parts us h q. h.0,
       (
@@ -601,7 +601,7 @@ from_constructor_body = (
         (
           λ ts parts us h q. (_, refl, refl),
           (
-            λ ts parts us h q. next_statement parts.first parts.second us.first us.second h.0 h.1.0,
+            λ ts parts us h q. next_statement parts.first parts.second us.first.texts us.second.texts h.0 h.1.0,
             from_block_statement,
           ),
         ),
@@ -640,21 +640,21 @@ from_declared = (
   (
     λ ts parts us h q. inr (_, refl, ap (λ t. t ++ codes ";" ∷ []) h.0),
     (
-      λ ts parts us h q. two (λ x y. codes "," ∷ (x ++ y)) (name_text parts.first us.first h.0) h.1.0,
+      λ ts parts us h q. two (λ x y. codes "," ∷ (x ++ y)) (name_text parts.first us.first.texts h.0) h.1.0,
       (
         λ ts parts us h q. refl,
         (
-          λ ts parts us h q. (_, _, refl, routine_text parts.first parts.third us.first us.second us.third h.0 h.1.0 h.1.1.0),
+          λ ts parts us h q. (_, _, refl, routine_text parts.first parts.third us.first.texts us.second.texts us.third.texts h.0 h.1.0 h.1.1.0),
           (
             λ ts parts us h q. refl,
             (
-              λ ts parts us h q. first_parameter parts.first parts.second us.first us.second h.0 h.1.0,
+              λ ts parts us h q. first_parameter parts.first parts.second us.first.texts us.second.texts h.0 h.1.0,
               (
-                λ ts parts us h q. next_parameter parts.first parts.second us.first us.second h.0 h.1.0,
+                λ ts parts us h q. next_parameter parts.first parts.second us.first.texts us.second.texts h.0 h.1.0,
                 (
                   λ ts parts us h q. refl,
                   (
-                    λ ts parts us h q. (_, refl, two (λ x y. x ++ y) (type_text parts.third us.third h.1.1.0) (name_text parts.fourth us.fourth h.1.1.1.0)),
+                    λ ts parts us h q. (_, refl, two (λ x y. x ++ y) (type_text parts.third us.third.texts h.1.1.0) (name_text parts.fourth us.fourth.texts h.1.1.1.0)),
                     from_type,
                   ),
                 ),
@@ -669,13 +669,13 @@ from_declared = (
 
 from_int_declaration : Each 29 (drop 29 java_productions)
 from_int_declaration = (
-  λ ts parts us h q. λ ls. typed_shown (type_at ls IntArrayType) parts.first parts.second us.first us.second h.0 h.1.0,
+  λ ts parts us h q. λ ls. typed_shown (type_at ls IntArrayType) parts.first parts.second us.first.texts us.second.texts h.0 h.1.0,
   (
-    λ ts parts us h q. λ ls. int_shown ls parts.first parts.second us.first us.second h.0 h.1.0,
+    λ ts parts us h q. λ ls. int_shown ls parts.first parts.second us.first.texts us.second.texts h.0 h.1.0,
     (
-      λ ts parts us h q. λ ls. constructor_shown ls (part.parameters_of parts.first) (part.statements_of parts.third) _ (routine_text parts.first parts.third us.first us.second us.third h.0 h.1.0 h.1.1.0),
+      λ ts parts us h q. λ ls. constructor_shown ls (part.parameters_of parts.first) (part.statements_of parts.third) _ (routine_text parts.first parts.third us.first.texts us.second.texts us.third.texts h.0 h.1.0 h.1.1.0),
       (
-        λ ts parts us h q. λ ls. typed_shown (type_at ls (NamedType (text_of ls))) parts.first parts.second us.first us.second h.0 h.1.0,
+        λ ts parts us h q. λ ls. typed_shown (type_at ls (NamedType (text_of ls))) parts.first parts.second us.first.texts us.second.texts h.0 h.1.0,
         (
           λ ts parts us h q. inr (let (z, is, et) = h.0 in (z, is, ap (λ t. codes "=" ∷ (t ++ codes ";" ∷ [])) et)),
           (
@@ -702,7 +702,7 @@ from_int_declaration = (
 
 from_member_declaration : Each 20 (drop 20 java_productions)
 from_member_declaration = (
-  λ ts parts us h q. ap (λ t. t ++ us.second) h.0 ∙ h.1.0 (static_of parts.first) q (place_of 0 ts) (blocks_of parts.first),
+  λ ts parts us h q. member_shown (place_of 0 ts) (static_of parts.first) us.second.of_constructor (blocks_of parts.first) parts.second us.first.texts us.second.texts h.0 h.1.0 q,
   (
     λ ts parts us h q. two first_there h.0 h.1.1.0 ∙ either_static (static_of parts.first) (static_of parts.third),
     (
@@ -712,9 +712,9 @@ from_member_declaration = (
         (
           λ ts parts us h q. refl,
           (
-            λ ts parts us h q. void_shown parts.first parts.second us.first us.second h.0 h.1.0,
+            λ ts parts us h q. void_shown parts.first parts.second us.first.texts us.second.texts h.0 h.1.0,
             (
-              λ ts parts us h q. typed_shown (type_at ts BooleanType) parts.first parts.second us.first us.second h.0 h.1.0,
+              λ ts parts us h q. typed_shown (type_at ts BooleanType) parts.first parts.second us.first.texts us.second.texts h.0 h.1.0,
               (
                 λ ts parts us h q. h.0 ts,
                 (
@@ -748,11 +748,11 @@ from_modifier = (
               (
                 λ ts parts us h q. h.0 ∙ ap (λ t. t ++ codes "}" ∷ []) (sym (annotated_body_text ts (members_of parts.first) (end_of parts.first))),
                 (
-                  λ ts parts us h q. members_shown parts.first parts.second us.first us.second h.0 h.1.0,
+                  λ ts parts us h q. members_shown parts.first parts.second us.first.texts us.second.texts h.0 h.1.0,
                   (
                     λ ts parts us h q. refl,
                     (
-                      λ ts parts us h q. members_shown parts.first parts.second us.first us.second h.0 h.1.0,
+                      λ ts parts us h q. members_shown parts.first parts.second us.first.texts us.second.texts h.0 h.1.0,
                       from_member_declaration,
                     ),
                   ),
@@ -780,7 +780,7 @@ from_compilation_unit = (
           (
             λ ts parts us h q. refl,
             (
-              λ ts parts us h q. four (λ a b c d. a ++ codes "class" ∷ (b ++ (c ++ codes "{" ∷ d))) h.0 (name_text parts.second us.second h.1.0) h.1.1.0 h.1.1.1.0 ∙ sym (append-nil (codes "class" ∷ (name_of parts.second).name ∷ (parent_texts (some_name parts.third) ++ codes "{" ∷ (members_texts (members_of parts.fourth) ++ codes "}" ∷ [])))),
+              λ ts parts us h q. four (λ a b c d. a ++ codes "class" ∷ (b ++ (c ++ codes "{" ∷ d))) h.0 (name_text parts.second us.second.texts h.1.0) h.1.1.0 h.1.1.1.0 ∙ sym (append-nil (codes "class" ∷ (name_of parts.second).name ∷ (parent_texts (some_name parts.third) ++ codes "{" ∷ (members_texts (members_of parts.fourth) ++ codes "}" ∷ [])))),
               (
                 λ ts parts us h q. refl,
                 (

@@ -13,8 +13,8 @@ use Rattle.jd_java_grammar.specs.declared.names.TheConstants.{COMPILATION_UNIT}
 use Rattle.jd_java_tokens.specs.Contents.{PlainLexeme}
 use Rattle.jd_java_values.specs.Values.{PlainValue, Nothing}
 use Rattle.jd_java_trees.specs.Meaning.{action_of, value_of_node, first_value, unit_by, unit_of}
-use Rattle.jd_java_texts.specs.Texts.{Texts, unit_texts}
-use Rattle.jd_java_texts.specs.Kept.{production_texts, texts_of_node, first_texts, texts_of_tree, IsProper, IsProperNode}
+use Rattle.jd_java_texts.specs.Texts.{unit_texts}
+use Rattle.jd_java_texts.specs.Kept.{NodeTexts, no_texts, node_texts, texts_of_node, first_of_all, texts_of_tree, IsProper, IsProperNode}
 use Rattle.jd_java_texts.proofs.Frames.{Shown}
 use Rattle.jd_java_texts.proofs.Table.{Fits, Shows, Each, each}
 
@@ -59,7 +59,7 @@ few_names p r e = let t = test_at (λ s. nat_le (name_count s.body) 4) java_prod
 -- ---- values with their texts
 
 abbrev Both : Type 0
-Both = PlainValue × Texts
+Both = PlainValue × NodeTexts
 
 abbrev FitsPairs : List Symbol → List Both → Type 0
 FitsPairs [] ps = ps ≡ []
@@ -70,11 +70,11 @@ FitsPairs (Name a ∷ ss) (p ∷ ps) = Shown a p.0 p.1 × FitsPairs ss ps
 abbrev values_in : List Both → List PlainValue
 values_in ps = map (λ (p : Both). p.0) ps
 
-abbrev texts_in : List Both → List Texts
+abbrev texts_in : List Both → List NodeTexts
 texts_in ps = map (λ (p : Both). p.1) ps
 
 abbrev AreParts : List Symbol → List Both → Type 0
-AreParts ss ps = Fits ss (filled (all_of Nothing) (values_in ps)) (filled (all_of []) (texts_in ps))
+AreParts ss ps = Fits ss (filled (all_of Nothing) (values_in ps)) (filled (all_of no_texts) (texts_in ps))
 
 no_cons : {A : Type 0} (x : A) (xs : List A) → x ∷ xs ≡ [] → ⊥
 no_cons x xs e = cc
@@ -123,20 +123,20 @@ fits ss (p ∷ q ∷ r ∷ s ∷ t ∷ ps) le h =
 
 -- ---- trees
 
-abbrev AllShown : List Symbol → List PlainValue → List Texts → Type 0
+abbrev AllShown : List Symbol → List PlainValue → List NodeTexts → Type 0
 AllShown ss vs us = (ps : List Both) × (vs ≡ values_in ps) × (us ≡ texts_in ps) × FitsPairs ss ps
 
-node_shown : (p a : ℕ) (r : Production) (ts : List PlainLexeme) (vs : List PlainValue) (us : List Texts) → slice_get java_productions p ≡ Some r → r.head ≡ a
+node_shown : (p a : ℕ) (r : Production) (ts : List PlainLexeme) (vs : List PlainValue) (us : List NodeTexts) → slice_get java_productions p ≡ Some r → r.head ≡ a
     → AllShown r.body vs us → IsProperNode (action_of p) (filled (all_of Nothing) vs) → Shown a (value_of_node p ts vs) (texts_of_node p ts us)
 node_shown p a r ts vs us at is (ps, e, g, h) q =
     subst (λ b. Shown b (value_of_node p ts vs) (texts_of_node p ts us)) is
-    (subst (λ o. Shown r.head (value_of_node p ts vs) (option_map_or (λ s. production_texts s ts (filled (all_of []) us)) o [])) (sym at)
-    (shows p r at ts (filled (all_of Nothing) vs) (filled (all_of []) us) parts q))
+    (subst (λ o. Shown r.head (value_of_node p ts vs) (option_map_or (λ s. node_texts s ts (filled (all_of no_texts) us)) o no_texts)) (sym at)
+    (shows p r at ts (filled (all_of Nothing) vs) (filled (all_of no_texts) us) parts q))
   where
-    parts : Fits r.body (filled (all_of Nothing) vs) (filled (all_of []) us)
+    parts : Fits r.body (filled (all_of Nothing) vs) (filled (all_of no_texts) us)
     parts =
-        subst (λ ws. Fits r.body (filled (all_of Nothing) ws) (filled (all_of []) us)) (sym e)
-        (subst (λ xs. Fits r.body (filled (all_of Nothing) (values_in ps)) (filled (all_of []) xs)) (sym g) (fits r.body ps (few_names p r at) h))
+        subst (λ ws. Fits r.body (filled (all_of Nothing) ws) (filled (all_of no_texts) us)) (sym e)
+        (subst (λ xs. Fits r.body (filled (all_of Nothing) (values_in ps)) (filled (all_of no_texts) xs)) (sym g) (fits r.body ps (few_names p r at) h))
 
 shown : (f : Forest) (ss : List Symbol) (after : List ℕ) (ts : List PlainLexeme) → IsForest java_productions f ss after → IsProper f ts → AllShown ss (values value_of_node f ts) (values texts_of_node f ts)
 shown Done [] after ts h q = ([], refl, refl, refl)
@@ -162,4 +162,4 @@ texts_kept f ts h q = by (shown f (Name COMPILATION_UNIT ∷ []) [] ts h q)
   where
     by : AllShown (Name COMPILATION_UNIT ∷ []) (values value_of_node f ts) (values texts_of_node f ts) → texts_of_tree f ts ≡ unit_texts (unit_of f ts)
     by ([], e, g, k) = absurd k
-    by (p ∷ ps, e, g, k) = ap first_texts g ∙ k.0 ∙ sym (ap (λ vs. unit_texts (unit_by (first_value vs))) e)
+    by (p ∷ ps, e, g, k) = ap (λ us. (first_of_all us).texts) g ∙ k.0 ∙ sym (ap (λ vs. unit_texts (unit_by (first_value vs))) e)

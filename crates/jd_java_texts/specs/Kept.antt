@@ -1,5 +1,5 @@
 -- The texts of the tokens of a derivation of a file, and that its tree has them.
-use Rattle.std.specs.Prelude.{◌≡◌, ℕ, zero, suc, List, [], ◌∷◌, ◌++◌, length, drop, cond, ◌==◌, Bool, true, false, codes}
+use Rattle.std.specs.Prelude.{◌≡◌, ℕ, zero, suc, List, [], ◌∷◌, ◌++◌, length, drop, cond, ◌==◌, ◌&&◌, Bool, true, false, codes}
 use Rattle.std.specs.Fmt.{decimal}
 use Rattle.std.specs.List.{slice_get, list_any}
 use Rattle.std.specs.Option.{option_map_or}
@@ -105,24 +105,57 @@ production_texts r ts parts =
     (cond (r.head == names.CONSTANT) (body_texts (without_minus r.body) ts parts)
     (body_texts r.body ts parts)))))))
 
-abbrev pub texts_of_node : ℕ → List PlainLexeme → List Texts → Texts
-texts_of_node p ts us = option_map_or (λ r. production_texts r ts (filled (all_of []) us)) (slice_get java_productions p) []
+-- ---- and whether it declares a constructor
 
-abbrev pub first_texts : List Texts → Texts
-first_texts [] = []
-first_texts (t ∷ ts) = t
+pub record NodeTexts : Type 0 where
+  pub texts : Texts
+  pub of_constructor : Bool
 
--- those of a whole derivation, over its tokens
+abbrev pub no_texts : NodeTexts
+no_texts = record { texts = []; of_constructor = false }
+
+abbrev pub all_texts : NodeParts NodeTexts → NodeParts Texts
+all_texts us = record { first = us.first.texts; second = us.second.texts; third = us.third.texts; fourth = us.fourth.texts }
+
+abbrev pub begins_with : ℕ → List Symbol → Bool
+begins_with kind (Token k ∷ ss) = k == kind
+begins_with kind _ = false
+
+-- `(` stands behind the name that it begins with (8.8)
+abbrev pub is_constructor : Production → NodeParts NodeTexts → Bool
+is_constructor r us =
+    cond (r.head == names.IDENTIFIER_DECLARATION) (begins_with kinds.OPEN_PAREN r.body)
+    (cond (r.head == names.DECLARATION) (begins_with kinds.IDENTIFIER r.body && us.first.of_constructor) false)
+
+-- `static` before a constructor is left out (8.8.3)
+abbrev pub declared_texts : NodeParts NodeTexts → Texts
+declared_texts us = cond us.second.of_constructor us.second.texts (us.first.texts ++ us.second.texts)
+
+abbrev pub node_texts : Production → List PlainLexeme → NodeParts NodeTexts → NodeTexts
+node_texts r ts us = record {
+  texts = cond (r.head == names.MEMBER_DECLARATION) (declared_texts us) (production_texts r ts (all_texts us));
+  of_constructor = is_constructor r us;
+}
+
+-- ---- the texts of a derivation
+
+abbrev pub texts_of_node : ℕ → List PlainLexeme → List NodeTexts → NodeTexts
+texts_of_node p ts us = option_map_or (λ r. node_texts r ts (filled (all_of no_texts) us)) (slice_get java_productions p) no_texts
+
+abbrev pub first_of_all : List NodeTexts → NodeTexts
+first_of_all [] = no_texts
+first_of_all (u ∷ us) = u
+
+-- those of a whole one, over its tokens
 abbrev pub texts_of_tree : Forest → List PlainLexeme → Texts
-texts_of_tree f ts = first_texts (values texts_of_node f ts)
+texts_of_tree f ts = (first_of_all (values texts_of_node f ts)).texts
 
 -- ---- casts, and where `static` stands
 
--- before a constant, and before no field and no constructor (8.3.2, 8.8.3)
+-- before a constant, and before no field (8.3)
 abbrev pub IsStaticAsDeclared : Bool → PlainValue → Type 0
 IsStaticAsDeclared static (tree.Declaration given x (tree.FieldNames xs)) = static ≡ false
 IsStaticAsDeclared static (tree.Declaration given x (tree.Constant n)) = static ≡ true
-IsStaticAsDeclared static (tree.Declaration java.OfConstructor x (tree.Routine ps ss)) = static ≡ false
 IsStaticAsDeclared static _ = Unit {0}
 
 -- what is cast to a class stands behind a name alone
