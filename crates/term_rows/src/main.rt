@@ -17,6 +17,7 @@ mod renaming;
 mod replacing;
 mod sequents;
 mod setting;
+mod stepping;
 mod terms;
 mod texts;
 
@@ -38,6 +39,7 @@ fn tell(answer: &mut Answer, alloc: Global, names: &Names<'_>, row: &str) {
         "open" => operations::tell(answer, alloc, names, operation, text),
         "term" => terms::tell(answer, alloc, names, operation, text),
         "sequent" => sequents::tell(answer, alloc, names, operation, text),
+        "step" => stepping::tell(answer, alloc, names, operation, text),
         "lines" | "limits" => lines::tell(answer, alloc, names, kind, rest),
         "expression" => tell_same(answer, alloc, text),
         _ => answer.put("no such kind"),

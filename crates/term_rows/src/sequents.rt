@@ -49,7 +49,12 @@ fn sequent_in(alloc: Global, names: &Names<'_>, x: &Sx) -> Result<Option<Sequent
     Ok(Some(Sequent { left, right }))
 }
 
-fn sequent_of(alloc: Global, names: &Names<'_>, text: &str) -> Result<Option<Sequent>, NoMemory> {
+/// The sequent that is written so.
+pub(crate) fn sequent_of(
+    alloc: Global,
+    names: &Names<'_>,
+    text: &str,
+) -> Result<Option<Sequent>, NoMemory> {
     match &expression(alloc, text) {
         Ok(Some(x)) => sequent_in(alloc, names, x),
         Ok(None) => Ok(None),
@@ -150,12 +155,10 @@ fn tell_at(
     operation: &str,
     sequent: &Sequent,
     place: &Place,
-    text: &str,
 ) {
     match operation {
         "copy" => put_sequent(answer, alloc, names, &sequent.copy(alloc)),
         "at" => tell_node(answer, alloc, names, sequent, place),
-        "replace" => tell_replaced(answer, alloc, names, sequent, place, text),
         _ => answer.put("no such operation"),
     }
 }
@@ -172,7 +175,10 @@ pub(crate) fn tell(
     let (one, other) = two_texts(text);
     if let Some(sequent) = found(answer, &sequent_of(alloc, names, one)) {
         if let Some(place) = made(answer, &place_of(alloc, word)) {
-            tell_at(answer, alloc, names, operation, sequent, place, other);
+            if operation == "replace" {
+                return tell_replaced(answer, alloc, names, sequent, place, other);
+            }
+            tell_at(answer, alloc, names, operation, sequent, place);
         }
     }
 }
