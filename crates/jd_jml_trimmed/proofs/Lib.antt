@@ -1,5 +1,5 @@
-mod Shapes
-mod Near
+pub mod Shapes
+pub mod Near
 mod Levels
 mod Sums
 mod Table
