@@ -1,0 +1,6 @@
+//! What the tokens of JML in a text are alone, and that the text of clauses that are read spells tokens. Laws alone.
+#![tactic(auto)]
+
+mod laws;
+
+pub use laws::tokens_are_whole;
