@@ -1,0 +1,9 @@
+mod Every
+mod Named
+mod Shapes
+mod Table
+mod Trees
+mod Words
+mod Tokens
+mod Filled
+mod Declared
