@@ -1,6 +1,8 @@
 -- Each token in JML of a text is a token without what stands around it.
 use Rattle.std.proofs.Common.{◌≡◌, ◌≢◌, inl, inr, ℕ, suc, ◌+◌, Bool, true, false, cond, ◌==◌, List, [], ◌∷◌, ◌++◌, length, get_or, Some, None, pos, refl, sym, ap, subst, ◌∙◌, true≢false, append_assoc, length-append, get_or-append-add, arith}
+use Rattle.std.specs.List.{All, AllByRecursion}
 use Rattle.std.specs.Str.Parse.{digits_value}
+use Rattle.std.proofs.lemmas.List.Elements.{All-from_recursion}
 use Rattle.std.proofs.Math.Seq.{get_or-append_seam}
 use Rattle.jd_lex.specs.Bytes.{is_at}
 use Rattle.jd_lex.specs.Parts.{Kind, Word, Number, Sign, Token, Part, start_of, jml_text, without_last_ats, one}
@@ -8,11 +10,14 @@ use Rattle.jd_lex.specs.Lexing.{Reach, tokens_of, Whole, JmlPart, IsJmlPart, Com
 use Rattle.jd_lex.specs.declared.starts.Start.{Start}
 use Rattle.jd_lex.specs.declared.starts.Start.TheVariants.{White, WordStart, NumberStart, LineComment, BlockComment, SignStart}
 use Rattle.jd_lex.proofs.Slices.{ats_behind}
-use Rattle.jd_jml_lexed.specs.Whole.{IsWhole, AreWhole}
+use Rattle.jd_jml_lexed.specs.Whole.{IsWhole, IsWholeToken}
 use Rattle.jd_jml_lexed.proofs.Alone.{equals_not, word_alone, number_alone, sign_alone}
 use Rattle.jd_jml_lexed.proofs.Ends.{BeginsPlainly, Ends, part_ends}
 
 -- ---- lists of tokens
+
+abbrev AreWhole : List Token → Type 0
+AreWhole ts = AllByRecursion IsWholeToken ts
 
 whole_append : (xs ys : List Token) → AreWhole xs → AreWhole ys → AreWhole (xs ++ ys)
 whole_append [] ys h k = k
@@ -124,6 +129,7 @@ parts_whole all plain (p ∷ ps) from bytes at front is (some, behind, joined, p
     (java_whole all plain (start_of false (p.text ++ behind)) from p front behind here part)
     (parts_whole all plain ps (from + length p.text) behind at (front ++ p.text) (here ∙ sym (append_assoc front p.text behind)) more)
 
-pub tokens_whole : (bytes : List ℕ) (ts : List Token) → Spells bytes ts → AreWhole ts
+pub tokens_whole : (bytes : List ℕ) (ts : List Token) → Spells bytes ts → All IsWholeToken ts
 tokens_whole bytes ts h =
-    subst AreWhole (sym h.parts.leads.given) (parts_whole bytes h.plain h.parts.leads.parts 0 bytes h.parts.end [] refl h.parts.leads.reach)
+    All-from_recursion IsWholeToken ts
+    (subst AreWhole (sym h.parts.leads.given) (parts_whole bytes h.plain h.parts.leads.parts 0 bytes h.parts.end [] refl h.parts.leads.reach))

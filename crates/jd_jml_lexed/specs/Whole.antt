@@ -1,5 +1,5 @@
 -- What the tokens of JML in a text are without what stands around them.
-use Rattle.std.specs.Prelude.{◌≡◌, ℕ, List, [], ◌∷◌, true}
+use Rattle.std.specs.Prelude.{◌≡◌, ℕ, List, true, All}
 use Rattle.std.specs.Fmt.{signed_decimal}
 use Rattle.jd_lex.specs.Bytes.{is_at, BeginsOther}
 use Rattle.jd_lex.specs.Parts.{Kind, Word, Number, Sign, Token}
@@ -13,10 +13,9 @@ IsWhole (Word text) = IsTokenText (Word text) text
 IsWhole (Number value) = IsTokenText (Number value) (signed_decimal value)
 IsWhole (Sign text) = BeginsOther is_at text → IsTokenText (Sign text) text
 
--- so is each of them that stands in JML
-abbrev pub AreWhole : List Token → Type 0
-AreWhole [] = Unit {0}
-AreWhole (t ∷ ts) = (t.jml ≡ true → IsWhole t.kind) × AreWhole ts
+-- so it is where it stands in JML
+abbrev pub IsWholeToken : Token → Type 0
+IsWholeToken t = t.jml ≡ true → IsWhole t.kind
 
 abbrev pub TokensAreWhole : Type 0
-TokensAreWhole = (bytes : List ℕ) (ts : List Token) → Spells bytes ts → AreWhole ts
+TokensAreWhole = (bytes : List ℕ) (ts : List Token) → Spells bytes ts → All IsWholeToken ts
