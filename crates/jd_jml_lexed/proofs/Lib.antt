@@ -1,3 +1,6 @@
 mod Alone
 mod Ends
 mod Standing
+mod Spellings
+mod Leaves
+mod Deriving

@@ -3,4 +3,4 @@
 
 mod laws;
 
-pub use laws::tokens_are_whole;
+pub use laws::{printed_is_spelled, texts_are_tokens, tokens_are_whole};
