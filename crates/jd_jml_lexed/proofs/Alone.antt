@@ -1,4 +1,4 @@
--- What stands in JML is a token without what follows it.
+-- What is a token of a text is one of JML without what follows it.
 use Rattle.std.proofs.Common.{◌≡◌, ◌≢◌, inl, inr, ℕ, ◌<◌, ◌≤◌, ◌^◌, Bool, true, false, not, cond, ◌==◌, ◌&&◌, ◌||◌, List, [], ◌∷◌, ◌++◌, get_or, pos, refl, sym, ap, subst, ◌∙◌, true≢false, arith}
 use Rattle.std.specs.Fmt.{signed_decimal}
 use Rattle.std.specs.List.{list_all}
@@ -74,10 +74,10 @@ word_first b x other h =
 word_start : (b c : ℕ) → is_white b ≡ false → begins_word b ≡ true → start_by true b c ≡ WordStart
 word_start b c w g = as_word (is_white b) (begins_word b) ((b == 92) && is_letter c) (is_digit b) ((b == 47) && (c == 47)) ((b == 47) && (c == 42)) w g
 
--- a digit begins a number, whatever follows
-digit_start : (b c d : ℕ) → start_by true b c ≡ NumberStart → is_digit b ≡ true → start_by true b d ≡ NumberStart
-digit_start b c d h digit =
-    let k = chosen_digit (is_white b) (begins_word b) ((b == 92) && is_letter c) (is_digit b) ((b == 47) && (c == 47)) ((b == 47) && (c == 42)) h in
+-- a digit begins a number, in Java and in JML and whatever follows
+digit_start : (jml : Bool) (b c d : ℕ) → start_by jml b c ≡ NumberStart → is_digit b ≡ true → start_by true b d ≡ NumberStart
+digit_start jml b c d h digit =
+    let k = chosen_digit (is_white b) (begins_word b) (jml && ((b == 92) && is_letter c)) (is_digit b) ((b == 47) && (c == 47)) ((b == 47) && (c == 42)) h in
     as_digit (is_white b) (begins_word b) (b == 92) (is_letter d) (is_digit b) ((b == 47) && (d == 47)) ((b == 47) && (d == 42)) k.0 k.1
     (equals_not 92 b (other_than is_digit 92 b refl digit)) digit
 
@@ -100,17 +100,34 @@ alone_start b (c ∷ more) rest other h = h
 alone_start b [] [] other h = h
 alone_start b [] (x ∷ rest) other h = let k = word_first b x (no_letter x other) h in word_start b 0 k.0 k.1
 
+word_text : (text rest : List ℕ) → start_of true text ≡ WordStart → IsWord text rest → ((more : List ℕ) → text ≢ 92 ∷ 117 ∷ more) → IsTokenText (Word text) text
+word_text text rest start h no_escape = record {
+  alone = subst (λ s. IsAlone s (Word text) text) (sym start) (record { first = h.first; more = h.more; joined = h.joined; run = record { all = h.run.all; longest = tt } }, refl);
+  no_at = subst (BeginsOther is_at) (sym h.joined) (no_at_word h.first (get_or (h.first ∷ h.more) 1 0) (subst (λ t. start_of true t ≡ WordStart) h.joined start));
+  no_escape = no_escape;
+}
+
 pub word_alone : (text rest : List ℕ) → start_of true (text ++ rest) ≡ WordStart → IsWord text rest → ((more : List ℕ) → text ≢ 92 ∷ 117 ∷ more)
     → IsTokenText (Word text) text
-word_alone text rest is h no_escape =
-    let start : start_of true text ≡ WordStart =
-    subst (λ t. start_of true t ≡ WordStart) (sym h.joined)
-    (alone_start h.first h.more rest h.run.longest (subst (λ t. start_of true (t ++ rest) ≡ WordStart) h.joined is)) in
-    record {
-      alone = subst (λ s. IsAlone s (Word text) text) (sym start) (record { first = h.first; more = h.more; joined = h.joined; run = record { all = h.run.all; longest = tt } }, refl);
-      no_at = subst (BeginsOther is_at) (sym h.joined) (no_at_word h.first (get_or (h.first ∷ h.more) 1 0) (subst (λ t. start_of true t ≡ WordStart) h.joined start));
-      no_escape = no_escape;
-    }
+word_alone text rest is h no_escape = word_text text rest start h no_escape
+  where
+    start : start_of true text ≡ WordStart
+    start =
+        subst (λ t. start_of true t ≡ WordStart) (sym h.joined)
+        (alone_start h.first h.more rest h.run.longest (subst (λ t. start_of true (t ++ rest) ≡ WordStart) h.joined is))
+
+head_is : (b c : ℕ) (xs ys : List ℕ) → b ∷ xs ≡ c ∷ ys → b ≡ c
+head_is b c xs ys e = cc
+
+-- a word of Java begins with no backslash, and is one of JML too
+pub java_word_alone : (text rest : List ℕ) → start_of false (text ++ rest) ≡ WordStart → IsWord text rest → IsTokenText (Word text) text
+java_word_alone text rest is h =
+    let k = begins h.first (get_or ((h.first ∷ h.more) ++ rest) 1 0) (subst (λ t. start_of false (t ++ rest) ≡ WordStart) h.joined is) in
+    word_text text rest (subst (λ t. start_of true t ≡ WordStart) (sym h.joined) (word_start h.first (get_or (h.first ∷ h.more) 1 0) k.0 k.1)) h
+    (λ more e. other_than begins_word 92 h.first refl k.1 (head_is h.first 92 h.more (117 ∷ more) (sym h.joined ∙ e)))
+  where
+    begins : (b c : ℕ) → start_by false b c ≡ WordStart → (is_white b ≡ false) × (begins_word b ≡ true)
+    begins b c e = chosen_word (is_white b) (begins_word b) false (is_digit b) ((b == 47) && (c == 47)) ((b == 47) && (c == 42)) e
 
 -- ---- numbers
 
@@ -118,16 +135,14 @@ digits_alone : (zero : Bool) (more rest : List ℕ) → MoreDigits zero more res
 digits_alone true more rest h = h
 digits_alone false more rest h = record { all = h.all; longest = tt }
 
-head_is : (b c : ℕ) (xs ys : List ℕ) → b ∷ xs ≡ c ∷ ys → b ≡ c
-head_is b c xs ys e = cc
-
-number_text : (text rest : List ℕ) → start_of true (text ++ rest) ≡ NumberStart → IsNumeral text rest → digits_value 10 text ≤ limit true
+number_text : (jml : Bool) (text rest : List ℕ) → start_of jml (text ++ rest) ≡ NumberStart → IsNumeral text rest → digits_value 10 text ≤ limit true
     → IsTokenText (Number (pos (digits_value 10 text))) text
-number_text text rest is h le =
-    let begins : start_of true ((h.first ∷ h.more) ++ rest) ≡ NumberStart = subst (λ t. start_of true (t ++ rest) ≡ NumberStart) h.joined is in
-    let digit : is_digit h.first ≡ true = begins_number true ((h.first ∷ h.more) ++ rest) begins in
+number_text jml text rest is h le =
+    let begins : start_of jml ((h.first ∷ h.more) ++ rest) ≡ NumberStart = subst (λ t. start_of jml (t ++ rest) ≡ NumberStart) h.joined is in
+    let digit : is_digit h.first ≡ true = begins_number jml ((h.first ∷ h.more) ++ rest) begins in
     let start : start_of true text ≡ NumberStart =
-    subst (λ t. start_of true t ≡ NumberStart) (sym h.joined) (digit_start h.first (get_or ((h.first ∷ h.more) ++ rest) 1 0) (get_or (h.first ∷ h.more) 1 0) begins digit) in
+    subst (λ t. start_of true t ≡ NumberStart) (sym h.joined)
+    (digit_start jml h.first (get_or ((h.first ∷ h.more) ++ rest) 1 0) (get_or (h.first ∷ h.more) 1 0) begins digit) in
     record {
       alone = subst (λ s. IsAlone s (Number (pos (digits_value 10 text))) text) (sym start)
           (record { first = h.first; more = h.more; joined = h.joined; run = digits_alone (h.first == 48) h.more rest h.run }, le, refl);
@@ -138,13 +153,20 @@ number_text text rest is h le =
 small_limit : limit true < 10 ^ 64
 small_limit = omega arith
 
-pub number_alone : (text rest : List ℕ) → start_of true (text ++ rest) ≡ NumberStart → IsNumeral text rest → digits_value 10 text ≤ limit true
+-- what Java's numbers are limited by is less
+less_limit : (jml : Bool) (n : ℕ) → n ≤ limit jml → n ≤ limit true
+less_limit true n le = le
+less_limit false n le = omega (arith, le)
+
+pub number_alone : (jml : Bool) (text rest : List ℕ) → start_of jml (text ++ rest) ≡ NumberStart → IsNumeral text rest → digits_value 10 text ≤ limit jml
     → IsTokenText (Number (pos (digits_value 10 text))) (signed_decimal (pos (digits_value 10 text)))
-number_alone text rest is h le =
-    let begins : start_of true ((h.first ∷ h.more) ++ rest) ≡ NumberStart = subst (λ t. start_of true (t ++ rest) ≡ NumberStart) h.joined is in
-    let digit : is_digit (get_or text 0 0) ≡ true = subst (λ t. is_digit (get_or t 0 0) ≡ true) (sym h.joined) (begins_number true ((h.first ∷ h.more) ++ rest) begins) in
+number_alone jml text rest is h low =
+    let begins : start_of jml ((h.first ∷ h.more) ++ rest) ≡ NumberStart = subst (λ t. start_of jml (t ++ rest) ≡ NumberStart) h.joined is in
+    let digit : is_digit (get_or text 0 0) ≡ true = subst (λ t. is_digit (get_or t 0 0) ≡ true) (sym h.joined) (begins_number jml ((h.first ∷ h.more) ++ rest) begins) in
+    let le = less_limit jml (digits_value 10 text) low in
     let small = small_limit in
-    subst (λ t. IsTokenText (Number (pos (digits_value 10 text))) t) (sym (numeral_decimal text rest h digit (omega (arith, le, small)))) (number_text text rest is h le)
+    subst (λ t. IsTokenText (Number (pos (digits_value 10 text))) t) (sym (numeral_decimal text rest h digit (omega (arith, le, small))))
+    (number_text jml text rest is h le)
 
 -- ---- signs
 
@@ -187,9 +209,17 @@ signs_start = refl
 pub signs_no_backslash : list_all has_no_backslash (signs true) ≡ true
 signs_no_backslash = refl
 
-pub sign_alone : (text : List ℕ) → Listed text (signs true) → BeginsOther is_at text → IsTokenText (Sign text) text
-sign_alone text h no_at = record {
-  alone = subst (λ s. IsAlone s (Sign text) text) (sym (sign_start_is (start_of true text) (listed_test (λ s. is_sign_start (start_of true s)) (signs true) text signs_start h))) (h, refl);
-  no_at = no_at;
-  no_escape = λ more e. true≢false (sym (listed_test has_no_backslash (signs true) text signs_no_backslash h) ∙ ap has_no_backslash e);
-}
+-- the signs of Java are signs of JML
+listed_in : (jml : Bool) (text : List ℕ) → Listed text (signs jml) → Listed text (signs true)
+listed_in true text h = h
+listed_in false text h = inr (inr (inr (inr (inr h))))
+
+pub sign_alone : (jml : Bool) (text : List ℕ) → Listed text (signs jml) → BeginsOther is_at text → IsTokenText (Sign text) text
+sign_alone jml text listed no_at = by (listed_in jml text listed)
+  where
+    by : Listed text (signs true) → IsTokenText (Sign text) text
+    by h = record {
+      alone = subst (λ s. IsAlone s (Sign text) text) (sym (sign_start_is (start_of true text) (listed_test (λ s. is_sign_start (start_of true s)) (signs true) text signs_start h))) (h, refl);
+      no_at = no_at;
+      no_escape = λ more e. true≢false (sym (listed_test has_no_backslash (signs true) text signs_no_backslash h) ∙ ap has_no_backslash e);
+    }

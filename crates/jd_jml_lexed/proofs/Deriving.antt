@@ -1,9 +1,9 @@
 -- The texts of a derivation are those of tokens.
-use Rattle.std.proofs.Common.{◌≡◌, ℕ, zero, suc, Bool, true, false, cond, ◌==◌, ◌&&◌, List, [], ◌∷◌, ◌++◌, drop, length, Some, refl, sym, ap, subst, ◌∙◌, true≢false, append_assoc}
+use Rattle.std.proofs.Common.{◌≡◌, ℕ, zero, suc, ◌-◌, Bool, true, false, cond, ◌==◌, ◌&&◌, List, [], ◌∷◌, ◌++◌, drop, length, Some, refl, sym, ap, subst, ◌∙◌, true≢false, append_assoc}
 use Rattle.std.specs.List.{slice_get, list_all, All, AllByRecursion, Contains}
 use Rattle.std.specs.Option.{option_map_or}
 use Rattle.std.proofs.lemmas.List.{append-nil}
-use Rattle.std.proofs.lemmas.List.Elements.{recursion_from_All, All-contains}
+use Rattle.std.proofs.lemmas.List.Elements.{recursion_from_All, All-contains, All-contains_itself, All-drop, All-take, All-weaker}
 use Rattle.jd_grammar.specs.Grammars.{Production, Forest, Done, Leaf, Node, yield, IsForest}
 use Rattle.jd_grammar.specs.Folds.{values}
 use Rattle.jd_grammar.specs.Nodes.{all_of, filled}
@@ -18,13 +18,14 @@ use Rattle.jd_jml_grammar.specs.Productions.{jml_productions}
 use Rattle.jd_jml_grammar.specs.declared.names.TheConstants as names
 use Rattle.jd_jml_tokens.specs.Lexemes.{PlainLexeme, lexemes_of, kinds_of, text_of}
 use Rattle.jd_jml_print.specs.Texts.{Texts}
-use Rattle.jd_jml_spelled.specs.Clauses.{AreTokens, all_texts}
+use Rattle.jd_jml_spelled.specs.Clauses.{AreTokens, ClausesAreSpelled}
 use Rattle.jd_jml_texts.specs.Kept.{token_text, rest, body_texts, without_also, production_texts, texts_of_node, first_texts}
 use Rattle.jd_jmlparse.specs.Parses.{Reads}
+use Rattle.jd_jmlparse.specs.Filled.{HasClauses, block_tokens, blocks_of, tokens_from}
 use Rattle.jd_jmlparse.specs.Places.{name_of}
 use Rattle.jd_jml_again.specs.Again.{ReadAgain}
 use Rattle.jd_jml_lexed.specs.Whole.{IsWholeToken, TokensAreWhole}
-use Rattle.jd_jml_lexed.specs.Printed.{AreInJml}
+use Rattle.jd_jml_lexed.specs.Printed.{IsSpelled, PrintedIsSpelled, TextsAreTokens}
 use Rattle.jd_jml_lexed.proofs.Spellings.{and_both}
 use Rattle.jd_jml_lexed.proofs.Leaves.{AreWhole, is_spelled, spelled_tokens, is_word_kind, name_is_token}
 
@@ -165,15 +166,31 @@ first_tokens (t ∷ ts) h = h.0
 
 -- ---- what is read
 
-lexemes_whole : (ts us : List lexed.Token) → All IsWholeToken ts → AllByRecursion (λ u. Contains ts u × (u.jml ≡ true)) us → AreWhole (lexemes_of us)
+lexemes_whole : (ts us : List lexed.Token) → All IsWholeToken ts → AllByRecursion (Contains ts) us → AreWhole (lexemes_of us)
 lexemes_whole ts [] h k = tt
-lexemes_whole ts (u ∷ us) h k = ((refl, All-contains IsWholeToken ts u h k.0.0 k.0.1), lexemes_whole ts us h k.1)
+lexemes_whole ts (u ∷ us) h k = ((refl, All-contains IsWholeToken ts u h k.0), lexemes_whole ts us h k.1)
 
-pub texts_tokens : TokensAreWhole → ReadAgain → (bytes : List ℕ) (ts us : List lexed.Token) (place : SpecPlace) (cs : List PlainClause) → Spells bytes ts → AreInJml ts us → Reads place us cs
-    → AreTokens (all_texts cs)
+pub texts_tokens : TokensAreWhole → ReadAgain → TextsAreTokens
 texts_tokens whole again bytes ts us place cs spells among reads =
     let (tree, derived, is) = again.texts place us cs reads in
-    let w = lexemes_whole ts us (whole bytes ts spells) (recursion_from_All (λ u. Contains ts u × (u.jml ≡ true)) us among) in
+    let w = lexemes_whole ts us (whole bytes ts spells) (recursion_from_All (Contains ts) us among) in
     subst AreTokens is
     (first_tokens (values texts_of_node tree (lexemes_of us))
     (tree_tokens tree (Name (name_of place) ∷ []) [] (lexemes_of us) derived.tree w ([], sym (append-nil (yield tree) ∙ derived.tokens))))
+
+-- ---- what is printed
+
+clauses_spelled : TextsAreTokens → ClausesAreSpelled → (bytes : List ℕ) (ts us : List lexed.Token) (place : SpecPlace) (cs : List PlainClause) → Spells bytes ts → All (Contains ts) us
+    → Reads place us cs → IsSpelled cs
+clauses_spelled texts spelled bytes ts us place cs spells among reads = spelled.spelled cs (texts bytes ts us place cs spells among reads)
+
+pub printed_spelled : TextsAreTokens → ClausesAreSpelled → PrintedIsSpelled
+printed_spelled texts spelled = record {
+  clauses = clauses_spelled texts spelled;
+  blocks = λ bytes ts unit filled spells fills.
+      All-weaker (HasClauses ts) (λ b. IsSpelled b.clauses)
+      (λ b reads. clauses_spelled texts spelled bytes ts (block_tokens ts b) b.place b.clauses spells (among ts b.from b.to) reads) (blocks_of filled) fills.read;
+}
+  where
+    among : (ts : List lexed.Token) (from to : ℕ) → All (Contains ts) (tokens_from ts from to)
+    among ts from to = All-take (Contains ts) (to - from) (drop from ts) (All-drop (Contains ts) from ts (All-contains_itself ts))

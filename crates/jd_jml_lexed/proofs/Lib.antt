@@ -1,6 +1,6 @@
 mod Alone
 mod Ends
 mod Standing
-mod Spellings
-mod Leaves
+pub mod Spellings
+pub mod Leaves
 mod Deriving

@@ -1,4 +1,4 @@
--- Each token in JML of a text is a token without what stands around it.
+-- Each token of a text is one of JML without what stands around it.
 use Rattle.std.proofs.Common.{◌≡◌, ◌≢◌, inl, inr, ℕ, suc, ◌+◌, Bool, true, false, cond, ◌==◌, List, [], ◌∷◌, ◌++◌, length, get_or, Some, None, pos, refl, sym, ap, subst, ◌∙◌, true≢false, append_assoc, length-append, get_or-append-add, arith}
 use Rattle.std.specs.List.{All, AllByRecursion}
 use Rattle.std.specs.Str.Parse.{digits_value}
@@ -11,7 +11,7 @@ use Rattle.jd_lex.specs.declared.starts.Start.{Start}
 use Rattle.jd_lex.specs.declared.starts.Start.TheVariants.{White, WordStart, NumberStart, LineComment, BlockComment, SignStart}
 use Rattle.jd_lex.proofs.Slices.{ats_behind}
 use Rattle.jd_jml_lexed.specs.Whole.{IsWhole, IsWholeToken}
-use Rattle.jd_jml_lexed.proofs.Alone.{equals_not, word_alone, number_alone, sign_alone}
+use Rattle.jd_jml_lexed.proofs.Alone.{equals_not, word_alone, java_word_alone, number_alone, sign_alone}
 use Rattle.jd_jml_lexed.proofs.Ends.{BeginsPlainly, Ends, part_ends}
 
 -- ---- lists of tokens
@@ -23,11 +23,8 @@ whole_append : (xs ys : List Token) → AreWhole xs → AreWhole ys → AreWhole
 whole_append [] ys h k = k
 whole_append (x ∷ xs) ys h k = (h.0, whole_append xs ys h.1 k)
 
-one_whole : (at : ℕ) (text : List ℕ) (kind : Kind) → IsWhole kind → AreWhole (one true at text kind)
-one_whole at text kind h = (λ e. h, tt)
-
-outside : (at : ℕ) (text : List ℕ) (kind : Kind) → AreWhole (one false at text kind)
-outside at text kind = (λ e. absurd (true≢false (sym e)), tt)
+one_whole : (jml : Bool) (at : ℕ) (text : List ℕ) (kind : Kind) → IsWhole kind → AreWhole (one jml at text kind)
+one_whole jml at text kind h = (h, tt)
 
 none : (ts : List Token) → ts ≡ [] → AreWhole ts
 none ts e = subst AreWhole (sym e) tt
@@ -55,13 +52,13 @@ escape_at bytes front c more other is =
 
 jml_whole : (s : Start) (at : ℕ) (p : Part) (rest : List ℕ) → start_of true (p.text ++ rest) ≡ s → ((more : List ℕ) → p.text ≢ 92 ∷ 117 ∷ more) → JmlPart s at p rest → AreWhole p.tokens
 jml_whole White at p rest is no_escape h = none p.tokens h.1
-jml_whole WordStart at p rest is no_escape h = subst AreWhole (sym h.1) (one_whole at p.text (Word p.text) (word_alone p.text rest is h.0 no_escape))
+jml_whole WordStart at p rest is no_escape h = subst AreWhole (sym h.1) (one_whole true at p.text (Word p.text) (word_alone p.text rest is h.0 no_escape))
 jml_whole NumberStart at p rest is no_escape h =
-    subst AreWhole (sym h.2) (one_whole at p.text (Number (pos (digits_value 10 p.text))) (number_alone p.text rest is h.0 h.1))
+    subst AreWhole (sym h.2) (one_whole true at p.text (Number (pos (digits_value 10 p.text))) (number_alone true p.text rest is h.0 h.1))
 jml_whole LineComment at p rest is no_escape (body, h, t) = none p.tokens t
 jml_whole BlockComment at p rest is no_escape (inl (body, h, t)) = none p.tokens t
-jml_whole BlockComment at p rest is no_escape (inr h) = subst AreWhole (sym h.1.1) (one_whole at p.text (Sign p.text) (λ o. sign_alone p.text h.1.0.listed o))
-jml_whole SignStart at p rest is no_escape h = subst AreWhole (sym h.1) (one_whole at p.text (Sign p.text) (λ o. sign_alone p.text h.0.listed o))
+jml_whole BlockComment at p rest is no_escape (inr h) = subst AreWhole (sym h.1.1) (one_whole true at p.text (Sign p.text) (λ o. sign_alone true p.text h.1.0.listed o))
+jml_whole SignStart at p rest is no_escape h = subst AreWhole (sym h.1) (one_whole true at p.text (Sign p.text) (λ o. sign_alone true p.text h.0.listed o))
 
 -- parts of JML behind a byte, none of which begins with a backslash where that byte is one
 reach_whole : (all after : List ℕ) → HasNoEscape all → (ps : List Part) (from : ℕ) (bytes : List ℕ) (at : ℕ) (front : List ℕ) (c : ℕ) → all ≡ front ++ c ∷ (bytes ++ after)
@@ -106,15 +103,17 @@ comment_whole all plain block at (b ∷ text) ts front after is h = go (is_at b)
 
 -- ---- parts of the text
 
-java_whole : (all : List ℕ) → HasNoEscape all → (s : Start) (at : ℕ) (p : Part) (front behind : List ℕ) → all ≡ front ++ (p.text ++ behind) → JavaPart s at p behind → AreWhole p.tokens
-java_whole all plain White at p front behind is h = none p.tokens h.1
-java_whole all plain WordStart at p front behind is h = subst AreWhole (sym h.1) (outside at p.text (Word p.text))
-java_whole all plain NumberStart at p front behind is h = subst AreWhole (sym h.2) (outside at p.text (Number (pos (digits_value 10 p.text))))
-java_whole all plain SignStart at p front behind is h = subst AreWhole (sym h.1) (outside at p.text (Sign p.text))
-java_whole all plain LineComment at p front behind is (body, h, t) =
+java_whole : (all : List ℕ) → HasNoEscape all → (s : Start) (at : ℕ) (p : Part) (front behind : List ℕ) → start_of false (p.text ++ behind) ≡ s
+    → all ≡ front ++ (p.text ++ behind) → JavaPart s at p behind → AreWhole p.tokens
+java_whole all plain White at p front behind begins is h = none p.tokens h.1
+java_whole all plain WordStart at p front behind begins is h = subst AreWhole (sym h.1) (one_whole false at p.text (Word p.text) (java_word_alone p.text behind begins h.0))
+java_whole all plain NumberStart at p front behind begins is h =
+    subst AreWhole (sym h.2) (one_whole false at p.text (Number (pos (digits_value 10 p.text))) (number_alone false p.text behind begins h.0 h.1))
+java_whole all plain SignStart at p front behind begins is h = subst AreWhole (sym h.1) (one_whole false at p.text (Sign p.text) (λ o. sign_alone false p.text h.0.listed o))
+java_whole all plain LineComment at p front behind begins is (body, h, t) =
     comment_whole all plain false at body p.tokens (front ++ 47 ∷ 47 ∷ []) behind
     (is ∙ (ap (λ u. front ++ (u ++ behind)) h.joined ∙ sym (append_assoc front (47 ∷ 47 ∷ []) (body ++ behind)))) t
-java_whole all plain BlockComment at p front behind is (body, h, t) =
+java_whole all plain BlockComment at p front behind begins is (body, h, t) =
     comment_whole all plain true at body p.tokens (front ++ 47 ∷ 42 ∷ []) ((42 ∷ 47 ∷ []) ++ behind)
     (is
     ∙ (ap (λ u. front ++ (u ++ behind)) h.joined
@@ -126,7 +125,7 @@ parts_whole all plain [] from bytes at front is h = tt
 parts_whole all plain (p ∷ ps) from bytes at front is (some, behind, joined, part, more) =
     let here : all ≡ front ++ (p.text ++ behind) = is ∙ ap (λ t. front ++ t) joined in
     whole_append p.tokens (tokens_of ps)
-    (java_whole all plain (start_of false (p.text ++ behind)) from p front behind here part)
+    (java_whole all plain (start_of false (p.text ++ behind)) from p front behind refl here part)
     (parts_whole all plain ps (from + length p.text) behind at (front ++ p.text) (here ∙ sym (append_assoc front p.text behind)) more)
 
 pub tokens_whole : (bytes : List ℕ) (ts : List Token) → Spells bytes ts → All IsWholeToken ts

@@ -4,12 +4,12 @@ ghost use Rattle.jd_jml_lexed.specs.Whole.{TokensAreWhole};
 use jd_jml_again::read_again;
 use jd_jml_spelled::clauses_are_spelled;
 
-/// Each token in JML of a text has the text of one token, whatever stands around it.
+/// Each token of a text has the text of one token of JML, whatever stands around it.
 pub fn tokens_are_whole()
     ensures { TokensAreWhole }
 {}
 
-/// Each text in the clauses that tokens in JML of a text spell is that of one token.
+/// Each text in the clauses that some of the tokens of a text spell is that of one token.
 pub fn texts_are_tokens()
     ensures { TextsAreTokens }
 {

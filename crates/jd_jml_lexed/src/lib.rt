@@ -1,4 +1,4 @@
-//! What the tokens of JML in a text are alone, and that the text of clauses that are read spells tokens. Laws alone.
+//! What the tokens of a text are alone, and that the text of clauses that are read spells tokens. Laws alone.
 #![tactic(auto)]
 
 mod laws;
