@@ -1,0 +1,6 @@
+mod Told
+mod Headings
+mod Rules
+mod Table
+mod Trees
+mod Reading
