@@ -2,3 +2,5 @@ mod Frames
 mod Shapes
 mod Table
 mod Trees
+mod Leaves
+mod Sides

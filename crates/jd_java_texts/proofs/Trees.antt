@@ -20,7 +20,7 @@ use Rattle.jd_java_texts.proofs.Table.{Fits, Shows, Each, each}
 
 -- ---- one production of the list
 
-same_some : {A : Type 0} (x y : A) → Some x ≡ Some y → x ≡ y
+pub same_some : {A : Type 0} (x y : A) → Some x ≡ Some y → x ≡ y
 same_some x y e = cc
 
 at_each : (g : List Production) (n p : ℕ) (r : Production) → Each n g → slice_get g p ≡ Some r → Shows (n + p) r
@@ -37,7 +37,7 @@ shows p r e =
     let same : 0 + p ≡ p = omega arith in
     subst (λ m. Shows m r) same (at_each java_productions 0 p r each e)
 
-test_at : (test : Production → Bool) (g : List Production) (p : ℕ) (r : Production) → list_all test g ≡ true → slice_get g p ≡ Some r → test r ≡ true
+pub test_at : (test : Production → Bool) (g : List Production) (p : ℕ) (r : Production) → list_all test g ≡ true → slice_get g p ≡ Some r → test r ≡ true
 test_at test [] p r all e = absurd cc
 test_at test (x ∷ g) zero r all e = ap test (sym (same_some x r e)) ∙ first (test x) all
   where
@@ -53,24 +53,24 @@ test_at test (x ∷ g) (suc p) r all e = test_at test g p r (others (test x) all
 few : list_all (λ r. nat_le (name_count r.body) 4) java_productions ≡ true
 few = refl
 
-few_names : (p : ℕ) (r : Production) → slice_get java_productions p ≡ Some r → name_count r.body ≤ 4
+pub few_names : (p : ℕ) (r : Production) → slice_get java_productions p ≡ Some r → name_count r.body ≤ 4
 few_names p r e = let t = test_at (λ s. nat_le (name_count s.body) 4) java_productions p r few e in grind (arith, nat_tests, t)
 
 -- ---- values with their texts
 
-abbrev Both : Type 0
+abbrev pub Both : Type 0
 Both = PlainValue × NodeTexts
 
-abbrev FitsPairs : List Symbol → List Both → Type 0
+abbrev pub FitsPairs : List Symbol → List Both → Type 0
 FitsPairs [] ps = ps ≡ []
 FitsPairs (Token kind ∷ ss) ps = FitsPairs ss ps
 FitsPairs (Name a ∷ ss) [] = ⊥
 FitsPairs (Name a ∷ ss) (p ∷ ps) = Shown a p.0 p.1 × FitsPairs ss ps
 
-abbrev values_in : List Both → List PlainValue
+abbrev pub values_in : List Both → List PlainValue
 values_in ps = map (λ (p : Both). p.0) ps
 
-abbrev texts_in : List Both → List NodeTexts
+abbrev pub texts_in : List Both → List NodeTexts
 texts_in ps = map (λ (p : Both). p.1) ps
 
 abbrev AreParts : List Symbol → List Both → Type 0
@@ -123,7 +123,7 @@ fits ss (p ∷ q ∷ r ∷ s ∷ t ∷ ps) le h =
 
 -- ---- trees
 
-abbrev AllShown : List Symbol → List PlainValue → List NodeTexts → Type 0
+abbrev pub AllShown : List Symbol → List PlainValue → List NodeTexts → Type 0
 AllShown ss vs us = (ps : List Both) × (vs ≡ values_in ps) × (us ≡ texts_in ps) × FitsPairs ss ps
 
 node_shown : (p a : ℕ) (r : Production) (ts : List PlainLexeme) (vs : List PlainValue) (us : List NodeTexts) → slice_get java_productions p ≡ Some r → r.head ≡ a
@@ -138,7 +138,7 @@ node_shown p a r ts vs us at is (ps, e, g, h) q =
         subst (λ ws. Fits r.body (filled (all_of Nothing) ws) (filled (all_of no_texts) us)) (sym e)
         (subst (λ xs. Fits r.body (filled (all_of Nothing) (values_in ps)) (filled (all_of no_texts) xs)) (sym g) (fits r.body ps (few_names p r at) h))
 
-shown : (f : Forest) (ss : List Symbol) (after : List ℕ) (ts : List PlainLexeme) → IsForest java_productions f ss after → IsProper f ts → AllShown ss (values value_of_node f ts) (values texts_of_node f ts)
+pub shown : (f : Forest) (ss : List Symbol) (after : List ℕ) (ts : List PlainLexeme) → IsForest java_productions f ss after → IsProper f ts → AllShown ss (values value_of_node f ts) (values texts_of_node f ts)
 shown Done [] after ts h q = ([], refl, refl, refl)
 shown Done (s ∷ ss) after ts h q = absurd h
 shown (Leaf k f) [] after ts h q = absurd h
