@@ -4,3 +4,4 @@ mod Table
 mod Trees
 mod Leaves
 mod Sides
+mod Spellings

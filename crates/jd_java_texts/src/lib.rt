@@ -3,4 +3,4 @@
 
 mod laws;
 
-pub use laws::{texts_are_kept, tokens_are_kept};
+pub use laws::{texts_are_kept, texts_are_spelled, tokens_are_kept};
