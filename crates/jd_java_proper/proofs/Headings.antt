@@ -10,12 +10,7 @@ use Rattle.jd_java_attributes.specs.declared.heading.Declared.{Declared}
 use Rattle.jd_java_attributes.specs.declared.heading.Declared.TheVariants as declares
 use Rattle.jd_java_attributes.specs.Headings.{PlainHeading, declared_of_both, misplaced_by, declaration_by, all_joined}
 use Rattle.jd_java_texts.specs.Kept.{IsStaticAsDeclared}
-
-two : {A B C : Type 0} (f : A → B → C) {a a' : A} {b b' : B} → a ≡ a' → b ≡ b' → f a b ≡ f a' b'
-two f {a} {a'} {b} {b'} e g = ap (λ x. f x b) e ∙ ap (f a') g
-
-three : {A B C D : Type 0} (f : A → B → C → D) {a a' : A} {b b' : B} {c c' : C} → a ≡ a' → b ≡ b' → c ≡ c' → f a b c ≡ f a' b' c'
-three f {a} {a'} {b} {b'} {c} {c'} e g h = ap (λ x. f x b c) e ∙ two (f a') g h
+use Rattle.jd_java_proper.proofs.Told.{three, no_some}
 
 four : {A B C D E : Type 0} (f : A → B → C → D → E) {a a' : A} {b b' : B} {c c' : C} {d d' : D} → a ≡ a' → b ≡ b' → c ≡ c' → d ≡ d' → f a b c d ≡ f a' b' c' d'
 four f {a} {a'} {b} {b'} {c} {c'} {d} {d'} e g h i = ap (λ x. f x b c d) e ∙ three (f a') g h i
@@ -92,9 +87,6 @@ declaration_declared (declares.Constructor at) name h = refl
 declaration_declared _ name h = refl
 
 -- ---- a member without fault
-
-no_some : (n : ℕ) → Some n ≡ None → ⊥
-no_some n e = cc
 
 is_off : (static : Bool) (at : ℕ) → cond static (Some at) None ≡ None → static ≡ false
 is_off true at e = absurd (no_some at e)

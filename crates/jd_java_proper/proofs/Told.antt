@@ -14,10 +14,10 @@ use Rattle.jd_java_attributes.specs.declared.form.Asked.{Asked}
 use Rattle.jd_java_attributes.specs.declared.form.Asked.TheVariants as asks
 use Rattle.jd_java_attributes.specs.Forms.{behind, inside, unmet}
 
-two : {A B C : Type 0} (f : A → B → C) {a a' : A} {b b' : B} → a ≡ a' → b ≡ b' → f a b ≡ f a' b'
+pub two : {A B C : Type 0} (f : A → B → C) {a a' : A} {b b' : B} → a ≡ a' → b ≡ b' → f a b ≡ f a' b'
 two f {a} {a'} {b} {b'} e g = ap (λ x. f x b) e ∙ ap (f a') g
 
-three : {A B C D : Type 0} (f : A → B → C → D) {a a' : A} {b b' : B} {c c' : C} → a ≡ a' → b ≡ b' → c ≡ c' → f a b c ≡ f a' b' c'
+pub three : {A B C D : Type 0} (f : A → B → C → D) {a a' : A} {b b' : B} {c c' : C} → a ≡ a' → b ≡ b' → c ≡ c' → f a b c ≡ f a' b' c'
 three f {a} {a'} {b} {b'} {c} {c'} e g h = ap (λ x. f x b c) e ∙ two (f a') g h
 
 -- ---- what is told
@@ -168,7 +168,7 @@ call_told w k a b c d h s n o p q = (no_name_chain k a b c d h n o p q, λ e. le
 
 -- ---- casts
 
-no_some : (n : ℕ) → Some n ≡ None → ⊥
+pub no_some : (n : ℕ) → Some n ≡ None → ⊥
 no_some n e = cc
 
 pub cast_told : (k : Kind) (v : PlainValue) (c : Asked) (at : ℕ) → OfOperand k v → c ≡ asks.Class at → unmet (inside k) c ≡ None → IsName v

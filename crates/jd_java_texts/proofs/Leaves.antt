@@ -20,10 +20,8 @@ use Rattle.std.specs.Fmt.{decimal}
 use Rattle.jd_java_texts.specs.Texts.{Texts}
 use Rattle.jd_java_texts.specs.Kept.{is_among, kinds_left_out, kinds_of_numbers, first_spelled, token_text, body_texts, names_left_out, NodeTexts, no_texts, all_texts, node_texts, texts_of_node, first_of_all, texts_of_tree}
 use Rattle.jd_java_texts.specs.Tokens.{lexeme_texts, tokens_texts, IsOver}
-use Rattle.jd_java_texts.proofs.Trees.{test_at, few_names}
-
-two : {A B C : Type 0} (f : A → B → C) {a a' : A} {b b' : B} → a ≡ a' → b ≡ b' → f a b ≡ f a' b'
-two f {a} {a'} {b} {b'} e g = ap (λ x. f x b) e ∙ ap (f a') g
+use Rattle.jd_java_texts.proofs.Shapes.{two}
+use Rattle.jd_java_texts.proofs.Trees.{test_at, few_names, no_cons}
 
 -- ---- the leaves
 
@@ -34,9 +32,6 @@ leaf_texts (Node p c f) ts = leaf_texts c ts ++ leaf_texts f (drop (length (yiel
 
 abbrev kinds_in : List PlainLexeme → List ℕ
 kinds_in ls = map (λ (l : PlainLexeme). l.kind) ls
-
-no_cons : {A : Type 0} (x : A) (xs : List A) → x ∷ xs ≡ [] → ⊥
-no_cons x xs e = cc
 
 same_head : (j k : ℕ) (js ks : List ℕ) → j ∷ js ≡ k ∷ ks → j ≡ k
 same_head j k js ks e = cc

@@ -20,7 +20,7 @@ use Rattle.jd_java_texts.proofs.Table.{Fits, Shows, Each, each}
 
 -- ---- one production of the list
 
-pub same_some : {A : Type 0} (x y : A) → Some x ≡ Some y → x ≡ y
+same_some : {A : Type 0} (x y : A) → Some x ≡ Some y → x ≡ y
 same_some x y e = cc
 
 at_each : (g : List Production) (n p : ℕ) (r : Production) → Each n g → slice_get g p ≡ Some r → Shows (n + p) r
@@ -76,7 +76,7 @@ texts_in ps = map (λ (p : Both). p.1) ps
 abbrev AreParts : List Symbol → List Both → Type 0
 AreParts ss ps = Fits ss (filled (all_of Nothing) (values_in ps)) (filled (all_of no_texts) (texts_in ps))
 
-no_cons : {A : Type 0} (x : A) (xs : List A) → x ∷ xs ≡ [] → ⊥
+pub no_cons : {A : Type 0} (x : A) (xs : List A) → x ∷ xs ≡ [] → ⊥
 no_cons x xs e = cc
 
 fits0 : (ss : List Symbol) → FitsPairs ss [] → AreParts ss []
