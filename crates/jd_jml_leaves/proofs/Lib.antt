@@ -1,2 +1,2 @@
-mod Printed
+pub mod Printed
 mod Same

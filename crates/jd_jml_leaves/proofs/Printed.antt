@@ -43,7 +43,8 @@ rest_is x (y ∷ z ∷ []) l = refl
 rest_is x (y ∷ z ∷ w ∷ []) l = refl
 rest_is x (y ∷ z ∷ w ∷ v ∷ xs) l = let no_more : ⊥ = omega (arith, l) in absurd no_more
 
-body_is : (ss : List Symbol) (xs : List Texts) (ts : List PlainLexeme) → length xs ≡ name_count ss → name_count ss ≤ 4 → body_texts ss ts (filled (all_of []) xs) ≡ interleaved ss xs ts
+body_is : (ss : List Symbol) (xs : List Texts) (ts : List PlainLexeme) → length xs ≡ name_count ss → name_count ss ≤ 4
+    → body_texts ss ts (filled (all_of []) xs) ≡ interleaved ss xs ts
 body_is [] xs ts e l = refl
 body_is (Token kind ∷ ss) xs ts e l = ap (λ ys. token_text kind ts ++ ys) (body_is ss xs ts e l)
 body_is (Name a ∷ []) [] ts e l = let no_more : ⊥ = omega (arith, e) in absurd no_more
@@ -55,7 +56,7 @@ body_is (Name a ∷ s ∷ ss) (x ∷ xs) ts e l =
 
 -- ---- tokens that are no names and no numbers
 
-abbrev is_plain : ℕ → Bool
+abbrev pub is_plain : ℕ → Bool
 is_plain k = not (k == kinds.IDENTIFIER) && not (k == kinds.NUMBER)
 
 abbrev are_plain : List Symbol → Bool
@@ -68,7 +69,8 @@ abbrev are_plain_behind : List Symbol → Bool
 are_plain_behind (Token k ∷ ss) = are_plain ss
 are_plain_behind ss = are_plain ss
 
-one_way : (k : ℕ) (ts : List PlainLexeme) → is_plain k ≡ true → token_text k ts ≡ cond (k == kinds.VISIBILITY) [] (first_spelled k words ++ first_spelled k used_signs)
+pub one_way : (k : ℕ) (ts : List PlainLexeme) → is_plain k ≡ true
+    → token_text k ts ≡ cond (k == kinds.VISIBILITY) [] (first_spelled k words ++ first_spelled k used_signs)
 one_way k ts u =
     let (a, b) = and_parts (not (k == kinds.IDENTIFIER)) (not (k == kinds.NUMBER)) u in
     ap (λ x. cond (k == kinds.VISIBILITY) [] (cond x (text_of ts ∷ []) (cond (k == kinds.NUMBER) (signed_decimal (number_of ts) ∷ []) (first_spelled k words ++ first_spelled k used_signs)))) (not-true (k == kinds.IDENTIFIER) a)
@@ -115,8 +117,10 @@ name_leaf (Leaf k Done) (Token j ∷ []) ts h u = refl
 name_leaf (Leaf k (Leaf i f)) (Token j ∷ []) ts h u = absurd h.1
 name_leaf (Leaf k (Node p d f)) (Token j ∷ []) ts h u = absurd h.1
 
-node_is : (p : ℕ) (r : Production) (c : Forest) (ts : List PlainLexeme) → slice_get jml_productions p ≡ Some r → IsShape c r.body → option_map_or leaves_out (slice_get jml_productions p) false ≡ false
-    → interleaved r.body (values texts_of_node c ts) ts ≡ leaf_texts false c ts → texts_of_node p ts (values texts_of_node c ts) ≡ leaf_texts (is_name p) c ts
+node_is : (p : ℕ) (r : Production) (c : Forest) (ts : List PlainLexeme) → slice_get jml_productions p ≡ Some r → IsShape c r.body
+    → option_map_or leaves_out (slice_get jml_productions p) false ≡ false
+    → interleaved r.body (values texts_of_node c ts) ts ≡ leaf_texts false c ts
+    → texts_of_node p ts (values texts_of_node c ts) ≡ leaf_texts (is_name p) c ts
 node_is p r c ts at h kept parts =
     ap (λ o. option_map_or (λ s. production_texts s ts (filled (all_of []) (values texts_of_node c ts))) o []) at
     ∙ by (r.head == names.IDENTIFIER) refl
@@ -131,13 +135,15 @@ node_is p r c ts at h kept parts =
     out : leaves_out r ≡ false
     out = sym (ap (λ o. option_map_or leaves_out o false) at) ∙ kept
 
-    bodies : (x : Bool) → (r.head == names.CONTRACT) ≡ x → cond x (body_texts (without_also r.body) ts (filled (all_of []) (values texts_of_node c ts))) body ≡ body
+    bodies : (x : Bool) → (r.head == names.CONTRACT) ≡ x
+        → cond x (body_texts (without_also r.body) ts (filled (all_of []) (values texts_of_node c ts))) body ≡ body
     bodies false e = refl
     bodies true e =
         ap (λ ss. body_texts ss ts (filled (all_of []) (values texts_of_node c ts)))
         (without_none r.body (sym (ap (λ x. x && begins_with_also r.body) e) ∙ out))
 
-    by : (x : Bool) → (r.head == names.IDENTIFIER) ≡ x → cond x (text_of ts ∷ []) (cond (r.head == names.CONTRACT) (body_texts (without_also r.body) ts (filled (all_of []) (values texts_of_node c ts))) body) ≡ leaf_texts x c ts
+    by : (x : Bool) → (r.head == names.IDENTIFIER) ≡ x
+        → cond x (text_of ts ∷ []) (cond (r.head == names.CONTRACT) (body_texts (without_also r.body) ts (filled (all_of []) (values texts_of_node c ts))) body) ≡ leaf_texts x c ts
     by true e = name_leaf c r.body ts h (fit.one e)
     by false e = bodies (r.head == names.CONTRACT) refl ∙ (body_is r.body (values texts_of_node c ts) ts (count texts_of_node c r.body ts h) fit.few ∙ parts)
 
@@ -147,7 +153,8 @@ node_is p r c ts at h kept parts =
 abbrev Placed : List Symbol → List PlainLexeme → List PlainLexeme → Type 0
 Placed ss first ts = (are_plain ss ≡ true) ⊎ ((first ≡ ts) × (are_plain_behind ss ≡ true))
 
-token_placed : (j : ℕ) (ss : List Symbol) (first ts : List PlainLexeme) → Placed (Token j ∷ ss) first ts → (token_text j first ≡ token_text j ts) × (are_plain ss ≡ true)
+token_placed : (j : ℕ) (ss : List Symbol) (first ts : List PlainLexeme) → Placed (Token j ∷ ss) first ts
+    → (token_text j first ≡ token_text j ts) × (are_plain ss ≡ true)
 token_placed j ss first ts (inl u) = let (a, b) = and_parts (is_plain j) (are_plain ss) u in (plain_token j first ts a, b)
 token_placed j ss first ts (inr (e, u)) = (ap (token_text j) e, u)
 
@@ -155,7 +162,8 @@ name_placed : (a : ℕ) (ss : List Symbol) (first ts : List PlainLexeme) → Pla
 name_placed a ss first ts (inl u) = u
 name_placed a ss first ts (inr (e, u)) = u
 
-all_leaves : (f : Forest) (ss : List Symbol) (first ts : List PlainLexeme) → IsShape f ss → IsTrimmed f → Placed ss first ts → interleaved ss (values texts_of_node f ts) first ≡ leaf_texts false f ts
+all_leaves : (f : Forest) (ss : List Symbol) (first ts : List PlainLexeme) → IsShape f ss → IsTrimmed f → Placed ss first ts
+    → interleaved ss (values texts_of_node f ts) first ≡ leaf_texts false f ts
 all_leaves Done [] first ts h t w = refl
 all_leaves Done (s ∷ ss) first ts h t w = absurd h
 all_leaves (Leaf k f) [] first ts h t w = absurd h
@@ -178,5 +186,6 @@ whole_tree (Node p c Done) a ts h t =
 whole_tree (Node p c (Leaf k f)) a ts (r, at, is, below, behind) t = absurd behind
 whole_tree (Node p c (Node q d f)) a ts (r, at, is, below, behind) t = absurd behind
 
-pub leaves_printed : (f : Forest) (a : ℕ) (ts : List PlainLexeme) → IsForest jml_productions f (Name a ∷ []) [] → IsTrimmed f → texts_of_tree f ts ≡ leaf_texts false f ts
+pub leaves_printed : (f : Forest) (a : ℕ) (ts : List PlainLexeme) → IsForest jml_productions f (Name a ∷ []) [] → IsTrimmed f
+    → texts_of_tree f ts ≡ leaf_texts false f ts
 leaves_printed f a ts h t = whole_tree f a ts (shape_of f (Name a ∷ []) [] h) t

@@ -97,7 +97,8 @@ is_token ss = false
 abbrev LooksAtLeaves : {V : Type 0} → (ℕ → List PlainLexeme → List V → V) → Type 0
 LooksAtLeaves {V} make =
     (p : ℕ) (r : Production) (ts us : List PlainLexeme) (vs : List V) → slice_get jml_productions p ≡ Some r → length ts ≡ length us
-    → ((r.head == names.IDENTIFIER) ≡ true → text_of ts ≡ text_of us) → (is_number r.body ≡ true → number_of ts ≡ number_of us) → make p ts vs ≡ make p (moved ts us) vs
+    → ((r.head == names.IDENTIFIER) ≡ true → text_of ts ≡ text_of us) → (is_number r.body ≡ true → number_of ts ≡ number_of us)
+    → make p ts vs ≡ make p (moved ts us) vs
 
 -- ---- clauses
 
@@ -120,7 +121,8 @@ same_cast (ArrayOperand e) t u ts us = refl
 same_cast _ t u ts us = refl
 
 same_expression : (a : expression_actions.Action) (t u : PlainLexeme) (ts us : List PlainLexeme) (parts : NodeParts PlainValue)
-    → (names_text (actions.Expression a) ≡ true → word_in t.token.kind ≡ word_in u.token.kind) → (names_number (actions.Expression a) ≡ true → number_in t.token.kind ≡ number_in u.token.kind)
+    → (names_text (actions.Expression a) ≡ true → word_in t.token.kind ≡ word_in u.token.kind)
+    → (names_number (actions.Expression a) ≡ true → number_in t.token.kind ≡ number_in u.token.kind)
     → expressions.meaning a (t ∷ ts) parts ≡ expressions.meaning a (moved_one t u ∷ us) parts
 same_expression expression.Nothing t u ts us parts w n = refl
 same_expression expression.Identifier t u ts us parts w n = ap (λ x. Named (record { at = t.token.begins; name = x })) (w refl)
@@ -128,17 +130,22 @@ same_expression expression.Number t u ts us parts w n = ap (λ x. Expression (jm
 same_expression expression.IntCast t u ts us parts w n = same_cast parts.first t u ts us
 same_expression _ t u ts us parts w n = refl
 
-same_clause : (a : clause_actions.Action) (t u : PlainLexeme) (ts us : List PlainLexeme) (parts : NodeParts PlainValue) → clauses.meaning a (t ∷ ts) parts ≡ clauses.meaning a (moved_one t u ∷ us) parts
+same_clause : (a : clause_actions.Action) (t u : PlainLexeme) (ts us : List PlainLexeme) (parts : NodeParts PlainValue)
+    → clauses.meaning a (t ∷ ts) parts ≡ clauses.meaning a (moved_one t u ∷ us) parts
 same_clause clause.AllClauses t u ts us parts = refl
 same_clause _ t u ts us parts = refl
 
-same_meaning : (a : Action) (t u : PlainLexeme) (ts us : List PlainLexeme) (parts : NodeParts PlainValue) → (names_text a ≡ true → word_in t.token.kind ≡ word_in u.token.kind)
-    → (names_number a ≡ true → number_in t.token.kind ≡ number_in u.token.kind) → meaning_by a (t ∷ ts) parts ≡ meaning_by a (moved_one t u ∷ us) parts
+same_meaning : (a : Action) (t u : PlainLexeme) (ts us : List PlainLexeme) (parts : NodeParts PlainValue)
+    → (names_text a ≡ true → word_in t.token.kind ≡ word_in u.token.kind)
+    → (names_number a ≡ true → number_in t.token.kind ≡ number_in u.token.kind)
+    → meaning_by a (t ∷ ts) parts ≡ meaning_by a (moved_one t u ∷ us) parts
 same_meaning (actions.Expression a) t u ts us parts w n = same_expression a t u ts us parts w n
 same_meaning (actions.Clause a) t u ts us parts w n = same_clause a t u ts us parts
 
-values_look : (p : ℕ) (r : Production) (ts us : List PlainLexeme) (vs : List PlainValue) → slice_get jml_productions p ≡ Some r → length ts ≡ length us
-    → ((r.head == names.IDENTIFIER) ≡ true → text_of ts ≡ text_of us) → (is_number r.body ≡ true → number_of ts ≡ number_of us) → value_of_node p ts vs ≡ value_of_node p (moved ts us) vs
+values_look : (p : ℕ) (r : Production) (ts us : List PlainLexeme) (vs : List PlainValue) → slice_get jml_productions p ≡ Some r
+    → length ts ≡ length us
+    → ((r.head == names.IDENTIFIER) ≡ true → text_of ts ≡ text_of us) → (is_number r.body ≡ true → number_of ts ≡ number_of us)
+    → value_of_node p ts vs ≡ value_of_node p (moved ts us) vs
 values_look p r [] us vs at e w n = refl
 values_look p r (t ∷ ts) [] vs at e w n = let no_more : ⊥ = omega (arith, e) in absurd no_more
 values_look p r (t ∷ ts) (u ∷ us) vs at e w n =
@@ -159,7 +166,8 @@ asks_so p r = implies (asks_text (row_of p).1) (r.head == names.IDENTIFIER)
 all_ask_so : passes asks_so 0 jml_productions ≡ true
 all_ask_so = refl
 
-same_made : (rule : Rule) (ts us : List PlainLexeme) (parts : NodeParts PlainForm) → length ts ≡ length us → (asks_text rule ≡ true → text_of ts ≡ text_of us) → made rule ts parts ≡ made rule (moved ts us) parts
+same_made : (rule : Rule) (ts us : List PlainLexeme) (parts : NodeParts PlainForm) → length ts ≡ length us
+    → (asks_text rule ≡ true → text_of ts ≡ text_of us) → made rule ts parts ≡ made rule (moved ts us) parts
 same_made rules.Identifier ts us parts e w = ap (λ x. of_kind (forms.Name x)) (w refl ∙ text_moves ts us e)
 same_made rules.CastOperand ts us parts e w = ap (λ at. record (above forms.Other (forms.in_order empty parts.first)) { cast = Some at }) (place_stays 0 ts us e)
 same_made rules.Sum ts us parts e w =
@@ -172,7 +180,8 @@ same_high_at ts us h (Some at) e = refl
 same_high_at ts us h None e = ap (λ at. cond (nat_lt 200 h) (Some at) None) (place_stays 0 ts us e)
 
 forms_look : (p : ℕ) (r : Production) (ts us : List PlainLexeme) (fs : List PlainForm) → slice_get jml_productions p ≡ Some r → length ts ≡ length us
-    → ((r.head == names.IDENTIFIER) ≡ true → text_of ts ≡ text_of us) → (is_number r.body ≡ true → number_of ts ≡ number_of us) → form_of_node p ts fs ≡ form_of_node p (moved ts us) fs
+    → ((r.head == names.IDENTIFIER) ≡ true → text_of ts ≡ text_of us) → (is_number r.body ≡ true → number_of ts ≡ number_of us)
+    → form_of_node p ts fs ≡ form_of_node p (moved ts us) fs
 forms_look p r ts us fs at e w n =
     let parts = filled (all_of empty) fs in
     let f = made (row_of p).1 (moved ts us) parts in
@@ -187,21 +196,24 @@ leaves_are p r = implies (r.head == names.IDENTIFIER) (is_token r.body) && impli
 all_leaves_are : passes leaves_are 0 jml_productions ≡ true
 all_leaves_are = refl
 
-name_says : (c : Forest) (ss : List Symbol) (ts us : List PlainLexeme) → IsShape c ss → is_token ss ≡ true → SayTheSame true c ts us → text_of ts ≡ text_of us
+name_says : (c : Forest) (ss : List Symbol) (ts us : List PlainLexeme) → IsShape c ss → is_token ss ≡ true → SayTheSame true c ts us
+    → text_of ts ≡ text_of us
 name_says c [] ts us h u s = absurd (false≢true u)
 name_says c (Name a ∷ ss) ts us h u s = absurd (false≢true u)
 name_says Done (Token j ∷ ss) ts us h u s = absurd h
 name_says (Leaf k f) (Token j ∷ ss) ts us h u s = s.0
 name_says (Node p d f) (Token j ∷ ss) ts us h u s = absurd h
 
-number_says : (c : Forest) (ss : List Symbol) (ts us : List PlainLexeme) → IsShape c ss → is_number ss ≡ true → SayTheSame false c ts us → number_of ts ≡ number_of us
+number_says : (c : Forest) (ss : List Symbol) (ts us : List PlainLexeme) → IsShape c ss → is_number ss ≡ true → SayTheSame false c ts us
+    → number_of ts ≡ number_of us
 number_says c [] ts us h u s = absurd (false≢true u)
 number_says c (Name a ∷ ss) ts us h u s = absurd (false≢true u)
 number_says Done (Token j ∷ ss) ts us h u s = absurd h
 number_says (Leaf k f) (Token j ∷ ss) ts us h u s = s.0 (sym h.0 ∙ eqb-true j kinds.NUMBER u)
 number_says (Node p d f) (Token j ∷ ss) ts us h u s = absurd h
 
-says : (p : ℕ) (r : Production) (c : Forest) (ts us : List PlainLexeme) → slice_get jml_productions p ≡ Some r → IsShape c r.body → SayTheSame (is_name p) c ts us
+says : (p : ℕ) (r : Production) (c : Forest) (ts us : List PlainLexeme) → slice_get jml_productions p ≡ Some r → IsShape c r.body
+    → SayTheSame (is_name p) c ts us
     → ((r.head == names.IDENTIFIER) ≡ true → text_of ts ≡ text_of us) × (is_number r.body ≡ true → number_of ts ≡ number_of us)
 says p r c ts us at h s =
     let (a, b) = and_parts (implies (r.head == names.IDENTIFIER) (is_token r.body)) (implies (is_number r.body) (not (r.head == names.IDENTIFIER))) (tested leaves_are p r all_leaves_are at) in (
@@ -212,7 +224,8 @@ says p r c ts us at h s =
     named : is_name p ≡ (r.head == names.IDENTIFIER)
     named = ap (λ o. option_map_or (λ (q : Production). q.head == names.IDENTIFIER) o false) at
 
-same_values : {V : Type 0} (make : ℕ → List PlainLexeme → List V → V) → LooksAtLeaves make → (named : Bool) (f : Forest) (ss : List Symbol) (ts us : List PlainLexeme) → IsShape f ss → length ts ≡ length us
+same_values : {V : Type 0} (make : ℕ → List PlainLexeme → List V → V) → LooksAtLeaves make
+    → (named : Bool) (f : Forest) (ss : List Symbol) (ts us : List PlainLexeme) → IsShape f ss → length ts ≡ length us
     → SayTheSame named f ts us → values make f ts ≡ values make f (moved ts us)
 same_values make looks named Done ss ts us h e s = refl
 same_values make looks named (Leaf k f) [] ts us h e s = absurd h
@@ -230,21 +243,26 @@ same_values make looks named (Node p c f) (Name a ∷ ss) ts us (r, at, is, belo
 
 -- ---- the laws
 
-same_clauses : (f : Forest) (a : ℕ) (ts us : List PlainLexeme) → IsForest jml_productions f (Name a ∷ []) [] → length ts ≡ length us → SayTheSame false f ts us → clauses_of_tree f ts ≡ clauses_of_tree f (moved ts us)
+same_clauses : (f : Forest) (a : ℕ) (ts us : List PlainLexeme) → IsForest jml_productions f (Name a ∷ []) [] → length ts ≡ length us
+    → SayTheSame false f ts us → clauses_of_tree f ts ≡ clauses_of_tree f (moved ts us)
 same_clauses f a ts us h e s =
     ap (λ vs. clauses_of (first_value vs)) (same_values value_of_node values_look false f (Name a ∷ []) ts us (shape_of f (Name a ∷ []) [] h) e s)
 
-same_form : (f : Forest) (a : ℕ) (ts us : List PlainLexeme) → IsForest jml_productions f (Name a ∷ []) [] → length ts ≡ length us → SayTheSame false f ts us → form_of f ts ≡ form_of f (moved ts us)
+same_form : (f : Forest) (a : ℕ) (ts us : List PlainLexeme) → IsForest jml_productions f (Name a ∷ []) [] → length ts ≡ length us
+    → SayTheSame false f ts us → form_of f ts ≡ form_of f (moved ts us)
 same_form f a ts us h e s = ap first_form (same_values form_of_node forms_look false f (Name a ∷ []) ts us (shape_of f (Name a ∷ []) [] h) e s)
 
-pub clauses_same : PlacesAreApart → (f : Forest) (a : ℕ) (ts us : List PlainLexeme) → IsForest jml_productions f (Name a ∷ []) [] → length ts ≡ length us → SayTheSame false f ts us
+pub clauses_same : PlacesAreApart → (f : Forest) (a : ℕ) (ts us : List PlainLexeme) → IsForest jml_productions f (Name a ∷ []) []
+    → length ts ≡ length us → SayTheSame false f ts us
     → map unplaced_clause (clauses_of_tree f ts) ≡ map unplaced_clause (clauses_of_tree f us)
 clauses_same apart f a ts us h e s = ap (map unplaced_clause) (same_clauses f a ts us h e s) ∙ apart.clauses f (moved ts us) us (alike ts us e)
 
-pub faultless_same : PlacesAreApart → (f : Forest) (a : ℕ) (ts us : List PlainLexeme) → IsForest jml_productions f (Name a ∷ []) [] → length ts ≡ length us → SayTheSame false f ts us
+pub faultless_same : PlacesAreApart → (f : Forest) (a : ℕ) (ts us : List PlainLexeme) → IsForest jml_productions f (Name a ∷ []) []
+    → length ts ≡ length us → SayTheSame false f ts us
     → (form_of f ts).fault ≡ None → (form_of f us).fault ≡ None
 faultless_same apart f a ts us h e s k = apart.faultless f (moved ts us) us (alike ts us e) (sym (ap (λ (x : PlainForm). x.fault) (same_form f a ts us h e s)) ∙ k)
 
-pub within_same : PlacesAreApart → (f : Forest) (a : ℕ) (ts us : List PlainLexeme) → IsForest jml_productions f (Name a ∷ []) [] → length ts ≡ length us → SayTheSame false f ts us
+pub within_same : PlacesAreApart → (f : Forest) (a : ℕ) (ts us : List PlainLexeme) → IsForest jml_productions f (Name a ∷ []) []
+    → length ts ≡ length us → SayTheSame false f ts us
     → (form_of f ts).high ≡ None → (form_of f us).high ≡ None
 within_same apart f a ts us h e s k = apart.within f (moved ts us) us (alike ts us e) (sym (ap (λ (x : PlainForm). x.high) (same_form f a ts us h e s)) ∙ k)

@@ -50,10 +50,14 @@ SayTheSame named (Node p c f) ts us = SayTheSame (is_name p) c ts us × SayTheSa
 -- leaves a derivation stands for clauses that are the same but for their places, and is without fault, and nothing in it is too high,
 -- over both or over none.
 pub record LeavesTellAll : Type 0 where
-  pub texts : (f : Forest) (a : ℕ) (ts : List PlainLexeme) → IsForest jml_productions f (Name a ∷ []) [] → IsTrimmed f → texts_of_tree f ts ≡ leaf_texts false f ts
-  pub clauses : (f : Forest) (a : ℕ) (ts us : List PlainLexeme) → IsForest jml_productions f (Name a ∷ []) [] → length ts ≡ length us → SayTheSame false f ts us
+  pub texts : (f : Forest) (a : ℕ) (ts : List PlainLexeme) → IsForest jml_productions f (Name a ∷ []) [] → IsTrimmed f
+      → texts_of_tree f ts ≡ leaf_texts false f ts
+  pub clauses : (f : Forest) (a : ℕ) (ts us : List PlainLexeme) → IsForest jml_productions f (Name a ∷ []) [] → length ts ≡ length us
+      → SayTheSame false f ts us
       → map unplaced_clause (clauses_of_tree f ts) ≡ map unplaced_clause (clauses_of_tree f us)
-  pub faultless : (f : Forest) (a : ℕ) (ts us : List PlainLexeme) → IsForest jml_productions f (Name a ∷ []) [] → length ts ≡ length us → SayTheSame false f ts us
+  pub faultless : (f : Forest) (a : ℕ) (ts us : List PlainLexeme) → IsForest jml_productions f (Name a ∷ []) [] → length ts ≡ length us
+      → SayTheSame false f ts us
       → (form_of f ts).fault ≡ None → (form_of f us).fault ≡ None
-  pub within : (f : Forest) (a : ℕ) (ts us : List PlainLexeme) → IsForest jml_productions f (Name a ∷ []) [] → length ts ≡ length us → SayTheSame false f ts us
+  pub within : (f : Forest) (a : ℕ) (ts us : List PlainLexeme) → IsForest jml_productions f (Name a ∷ []) [] → length ts ≡ length us
+      → SayTheSame false f ts us
       → (form_of f ts).high ≡ None → (form_of f us).high ≡ None

@@ -81,7 +81,8 @@ lower (Node p c f) (Name a ∷ ss) (r, at, is, below, behind) u =
     (k, lower c r.body below b, lower f ss behind w)
 
 -- of a name that is not inner
-pub lower_node : (p : ℕ) (r : Production) (c : Forest) → slice_get jml_productions p ≡ Some r → not (is_inner r.head) ≡ true → IsShape c r.body → keeps_all p × IsTrimmed c
+pub lower_node : (p : ℕ) (r : Production) (c : Forest) → slice_get jml_productions p ≡ Some r → not (is_inner r.head) ≡ true → IsShape c r.body
+    → keeps_all p × IsTrimmed c
 lower_node p r c at u h =
     let (b, k) = down_at p r at u in
     (k, lower c r.body h b)
@@ -147,7 +148,8 @@ keeps p r k = ap (λ o. option_map_or leaves_out o false) k.at ∙ k.all
 
 -- without its first token, in another form
 shorter : (p : ℕ) (r : Production) (k : ℕ) (d : Forest) (t : PlainLexeme) (us : List PlainLexeme) (q : ℕ) (s : Production) (e : Forest)
-    → slice_get jml_productions p ≡ Some r → is_inner r.head ≡ true → ((ts : List PlainLexeme) → own p ts ≡ nothing) → IsShape (Leaf k d) r.body → IsLeftOut t → kinds_of us ≡ yield d
+    → slice_get jml_productions p ≡ Some r → is_inner r.head ≡ true → ((ts : List PlainLexeme) → own p ts ≡ nothing) → IsShape (Leaf k d) r.body
+    → IsLeftOut t → kinds_of us ≡ yield d
     → Known q s → s.head ≡ r.head → IsShape e s.body → yield e ≡ yield d → IsTrimmed e → ((ts : List PlainLexeme) → total d ts ≡ total e ts)
     → MadeAnew p r.head (Leaf k d) (t ∷ us)
 shorter p r k d t us q s e at u o h l y known is shape yields trimmed same = record {
@@ -217,11 +219,13 @@ known32 = record { at = refl; inner = refl; bare = λ ts. refl; all = refl }
 
 -- ---- the same parts without the word
 
-visible : (p : ℕ) (r : Production) (q : ℕ) (s : Production) → slice_get jml_productions p ≡ Some r → is_inner r.head ≡ true → ((ts : List PlainLexeme) → own p ts ≡ nothing)
+visible : (p : ℕ) (r : Production) (q : ℕ) (s : Production) → slice_get jml_productions p ≡ Some r → is_inner r.head ≡ true
+    → ((ts : List PlainLexeme) → own p ts ≡ nothing)
     → r.body ≡ Token kinds.VISIBILITY ∷ s.body → Known q s → s.head ≡ r.head → all_seen s.body ≡ true → CanBeAnew p r.head r.body
 visible p r q s at u o body known is seen = record { anew = λ d us h e t. by d us (subst (IsShape d) body h) e t }
   where
-    by : (d : Forest) (us : List PlainLexeme) → IsShape d (Token kinds.VISIBILITY ∷ s.body) → kinds_of us ≡ yield d → AreTrimmedBelow d → MadeAnew p r.head d us
+    by : (d : Forest) (us : List PlainLexeme) → IsShape d (Token kinds.VISIBILITY ∷ s.body) → kinds_of us ≡ yield d → AreTrimmedBelow d
+        → MadeAnew p r.head d us
     by Done us h e t = absurd h
     by (Node n c f) us h e t = absurd h
     by (Leaf k f) [] h e t = absurd cc
@@ -245,7 +249,8 @@ bare_tells d ts h = sym (alone 32 d ts ∙ as_parts 32 bare_case known32 d ts h)
 visible_case : CanBeAnew 30 names.SPEC_CASE (Token kinds.VISIBILITY ∷ Name names.BEHAVIOR_CASE ∷ [])
 visible_case = record { anew = by }
   where
-    by : (d : Forest) (us : List PlainLexeme) → IsShape d (Token kinds.VISIBILITY ∷ Name names.BEHAVIOR_CASE ∷ []) → kinds_of us ≡ yield d → AreTrimmedBelow d → MadeAnew 30 names.SPEC_CASE d us
+    by : (d : Forest) (us : List PlainLexeme) → IsShape d (Token kinds.VISIBILITY ∷ Name names.BEHAVIOR_CASE ∷ []) → kinds_of us ≡ yield d
+        → AreTrimmedBelow d → MadeAnew 30 names.SPEC_CASE d us
     by Done us h e t = absurd h
     by (Node n c f) us h e t = absurd h
     by (Leaf k f) [] h e t = absurd cc
@@ -283,7 +288,8 @@ contract_trimmed (Leaf k f) h t = absurd h
 contract_trimmed (Node b c f) h (k, t, v) = (refl, (refl, (k, t, tt), v), tt)
 
 -- a node of one tree before others, where it tells what that tree does
-one_before : (q b : ℕ) (c f : Forest) (ts : List PlainLexeme) → node q (Node b c Done) ts ≡ node b c ts → total (Node q (Node b c Done) f) ts ≡ total (Node b c f) ts
+one_before : (q b : ℕ) (c f : Forest) (ts : List PlainLexeme) → node q (Node b c Done) ts ≡ node b c ts
+    → total (Node q (Node b c Done) f) ts ≡ total (Node b c f) ts
 one_before q b c f ts e =
     two beside e (ap (λ ks. total f (drop (length ks) ts)) (append-nil (yield c)))
 
@@ -300,7 +306,8 @@ contract_tells (Node b c f) ts (r, at, is, below, behind) =
 visible_behind_word : CanBeAnew 9 names.METHOD_SPECS_BEHIND_WORD (Token kinds.VISIBILITY ∷ behavior_parts)
 visible_behind_word = record { anew = by }
   where
-    by : (d : Forest) (us : List PlainLexeme) → IsShape d (Token kinds.VISIBILITY ∷ behavior_parts) → kinds_of us ≡ yield d → AreTrimmedBelow d → MadeAnew 9 names.METHOD_SPECS_BEHIND_WORD d us
+    by : (d : Forest) (us : List PlainLexeme) → IsShape d (Token kinds.VISIBILITY ∷ behavior_parts) → kinds_of us ≡ yield d → AreTrimmedBelow d
+        → MadeAnew 9 names.METHOD_SPECS_BEHIND_WORD d us
     by Done us h e t = absurd h
     by (Node n c f) us h e t = absurd h
     by (Leaf k f) [] h e t = absurd cc
@@ -336,7 +343,8 @@ same_production p q r s e at there = same_Some r s (sym at ∙ (ap (slice_get jm
 abbrev Anew1 : ℕ → ℕ → Forest → PlainLexeme → List PlainLexeme → Type 0
 Anew1 k n e x us = MadeAnew 1 names.METHOD_SPECS (Leaf k (Node n e Done)) (x ∷ us)
 
-visible_invariant : (k : ℕ) (e : Forest) (x : PlainLexeme) (us : List PlainLexeme) → kinds.VISIBILITY ≡ k → x.kind ≡ k → kinds_of us ≡ yield e ++ [] → IsShape e invariant_behind.body → IsTrimmed e
+visible_invariant : (k : ℕ) (e : Forest) (x : PlainLexeme) (us : List PlainLexeme) → kinds.VISIBILITY ≡ k → x.kind ≡ k → kinds_of us ≡ yield e ++ []
+    → IsShape e invariant_behind.body → IsTrimmed e
     → Anew1 k 5 e x us
 visible_invariant k e x us v first more h t =
     shorter 1 visible_specs k (Node 5 e Done) x us 0 method_specs e refl refl (λ ts. refl) (v, (invariant_behind, refl, refl, h, tt)) (inl (first ∙ sym v)) more known0 refl
@@ -345,7 +353,8 @@ visible_invariant k e x us v first more h t =
     t
     (λ ts. alone 5 e ts ∙ as_parts 5 invariant_behind known5 e ts h)
 
-visible_contract : (k : ℕ) (e : Forest) (x : PlainLexeme) (us : List PlainLexeme) → kinds.VISIBILITY ≡ k → x.kind ≡ k → kinds_of us ≡ yield e ++ [] → IsShape e behavior_parts → IsTrimmed e
+visible_contract : (k : ℕ) (e : Forest) (x : PlainLexeme) (us : List PlainLexeme) → kinds.VISIBILITY ≡ k → x.kind ≡ k → kinds_of us ≡ yield e ++ []
+    → IsShape e behavior_parts → IsTrimmed e
     → Anew1 k 6 e x us
 visible_contract k e x us v first more h t =
     shorter 1 visible_specs k (Node 6 e Done) x us 2 method_contract (contract_of e) refl refl (λ ts. refl) (v, (case_behind, refl, refl, h, tt)) (inl (first ∙ sym v)) more known2 refl
@@ -357,7 +366,8 @@ visible_contract k e x us v first more h t =
 visible_method : CanBeAnew 1 names.METHOD_SPECS visible_specs.body
 visible_method = record { anew = by }
   where
-    which : (k n : ℕ) (e : Forest) (x : PlainLexeme) (us : List PlainLexeme) (r : Production) → kinds.VISIBILITY ≡ k → x.kind ≡ k → kinds_of us ≡ yield e ++ [] → slice_get jml_productions n ≡ Some r
+    which : (k n : ℕ) (e : Forest) (x : PlainLexeme) (us : List PlainLexeme) (r : Production) → kinds.VISIBILITY ≡ k → x.kind ≡ k
+        → kinds_of us ≡ yield e ++ [] → slice_get jml_productions n ≡ Some r
         → IsShape e r.body → IsTrimmed e → OneOf n (5 ∷ 6 ∷ []) → Anew1 k n e x us
     which k n e x us r v first more at h t (inl is) =
         subst (λ m. Anew1 k m e x us) (sym is)
@@ -367,7 +377,8 @@ visible_method = record { anew = by }
         (visible_contract k e x us v first more (subst (λ (s : Production). IsShape e s.body) (same_production n 6 r case_behind is at refl) h) t)
     which k n e x us r v first more at h t (inr (inr q)) = absurd q
 
-    by : (d : Forest) (us : List PlainLexeme) → IsShape d visible_specs.body → kinds_of us ≡ yield d → AreTrimmedBelow d → MadeAnew 1 names.METHOD_SPECS d us
+    by : (d : Forest) (us : List PlainLexeme) → IsShape d visible_specs.body → kinds_of us ≡ yield d → AreTrimmedBelow d
+        → MadeAnew 1 names.METHOD_SPECS d us
     by Done us h e t = absurd h
     by (Node n c f) us h e t = absurd h
     by (Leaf k Done) us h e t = absurd h.1
@@ -399,7 +410,8 @@ not_visible Done h t = absurd h
 not_visible (Leaf k f) h t = t.0 (sym h.0)
 not_visible (Node n c f) h t = absurd h
 
-also_case : (k : ℕ) (e f : Forest) (x : PlainLexeme) (us : List PlainLexeme) → kinds.ALSO ≡ k → x.kind ≡ k → kinds_of us ≡ yield e ++ yield f → IsShape e (Name names.BARE_CASE ∷ []) → IsTrimmed e
+also_case : (k : ℕ) (e f : Forest) (x : PlainLexeme) (us : List PlainLexeme) → kinds.ALSO ≡ k → x.kind ≡ k → kinds_of us ≡ yield e ++ yield f
+    → IsShape e (Name names.BARE_CASE ∷ []) → IsTrimmed e
     → IsShape f behind_case → IsTrimmed f → Anew28 k 31 e f x us
 also_case k Done f x us v first more h t i j = absurd h
 also_case k (Leaf m d) f x us v first more h t i j = absurd h
@@ -416,7 +428,8 @@ also_case k (Node b c Done) f x us v first more (r, at, is, below, behind) (kept
 contract_with_also : CanBeAnew 28 names.CONTRACT also_contract.body
 contract_with_also = record { anew = by }
   where
-    which : (k n : ℕ) (e f : Forest) (x : PlainLexeme) (us : List PlainLexeme) (r : Production) → kinds.ALSO ≡ k → x.kind ≡ k → kinds_of us ≡ yield e ++ yield f → slice_get jml_productions n ≡ Some r
+    which : (k n : ℕ) (e f : Forest) (x : PlainLexeme) (us : List PlainLexeme) (r : Production) → kinds.ALSO ≡ k → x.kind ≡ k
+        → kinds_of us ≡ yield e ++ yield f → slice_get jml_productions n ≡ Some r
         → IsShape e r.body → IsTrimmed e → IsShape f behind_case → IsTrimmed f → OneOf n (30 ∷ 31 ∷ []) → Anew28 k n e f x us
     which k n e f x us r v first more at h t i j (inl is) =
         absurd (not_visible e (subst (λ (s : Production). IsShape e s.body) (same_production n 30 r case_with_visibility is at refl) h) t)
@@ -425,7 +438,8 @@ contract_with_also = record { anew = by }
         (also_case k e f x us v first more (subst (λ (s : Production). IsShape e s.body) (same_production n 31 r spec_case is at refl) h) t i j)
     which k n e f x us r v first more at h t i j (inr (inr q)) = absurd q
 
-    by : (d : Forest) (us : List PlainLexeme) → IsShape d also_contract.body → kinds_of us ≡ yield d → AreTrimmedBelow d → MadeAnew 28 names.CONTRACT d us
+    by : (d : Forest) (us : List PlainLexeme) → IsShape d also_contract.body → kinds_of us ≡ yield d → AreTrimmedBelow d
+        → MadeAnew 28 names.CONTRACT d us
     by Done us h e t = absurd h
     by (Node n c f) us h e t = absurd h
     by (Leaf k Done) us h e t = absurd h.1

@@ -149,7 +149,8 @@ fits p r = implies (is_low r.head) (rule_fits (row_of p).1 r.body)
 all_fit : passes fits 0 jml_productions ≡ true
 all_fit = refl
 
-level_node : (rule : Rule) (ts : List PlainLexeme) (ss : List Symbol) (fs : List PlainForm) → rule_fits rule ss ≡ true → (all_low ss ≡ true → AreLevel fs)
+level_node : (rule : Rule) (ts : List PlainLexeme) (ss : List Symbol) (fs : List PlainForm) → rule_fits rule ss ≡ true
+    → (all_low ss ≡ true → AreLevel fs)
     → IsLevel (form_by rule ts (filled (all_of empty) fs))
 level_node rules.Parts ts ss fs u h =
     let f = all_in_order empty (filled (all_of empty) fs) in

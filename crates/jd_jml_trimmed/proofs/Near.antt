@@ -67,7 +67,8 @@ LooksNear {V} make =
     → (5 ≤ token_count r.body → slice_get ts 4 ≡ slice_get us 4) → make p ts vs ≡ make p us vs
 
 -- with the next token behind them the same
-near : {V : Type 0} (make : ℕ → List PlainLexeme → List V → V) → LooksNear make → (f : Forest) (ss : List Symbol) (ts us : List PlainLexeme) → IsShape f ss
+near : {V : Type 0} (make : ℕ → List PlainLexeme → List V → V) → LooksNear make → (f : Forest) (ss : List Symbol) (ts us : List PlainLexeme)
+    → IsShape f ss
     → Agree (suc (length (yield f))) ts us → values make f ts ≡ values make f us
 near make looks Done ss ts us h a = refl
 near make looks (Leaf k f) [] ts us h a = absurd h
@@ -101,7 +102,8 @@ one_token [] e = absurd (false≢true e)
 one_token (Token k ∷ ss) e = omega arith
 one_token (Name a ∷ ss) e = one_token ss e
 
-pub by_own_tokens : {V : Type 0} (make : ℕ → List PlainLexeme → List V → V) → LooksNear make → (f : Forest) (ss : List Symbol) (ts us : List PlainLexeme) → IsShape f ss → is_closed ss ≡ true
+pub by_own_tokens : {V : Type 0} (make : ℕ → List PlainLexeme → List V → V) → LooksNear make
+    → (f : Forest) (ss : List Symbol) (ts us : List PlainLexeme) → IsShape f ss → is_closed ss ≡ true
     → Agree (length (yield f)) ts us → values make f ts ≡ values make f us
 by_own_tokens make looks Done ss ts us h u a = refl
 by_own_tokens make looks (Leaf k f) [] ts us h u a = absurd h
@@ -128,20 +130,24 @@ same_cast : (v : PlainValue) (x : PlainLexeme) (ts us : List PlainLexeme) → in
 same_cast (ArrayOperand e) x ts us = refl
 same_cast _ x ts us = refl
 
-same_expression : (a : expression_actions.Action) (x : PlainLexeme) (ts us : List PlainLexeme) (parts : NodeParts PlainValue) → expressions.meaning a (x ∷ ts) parts ≡ expressions.meaning a (x ∷ us) parts
+same_expression : (a : expression_actions.Action) (x : PlainLexeme) (ts us : List PlainLexeme) (parts : NodeParts PlainValue)
+    → expressions.meaning a (x ∷ ts) parts ≡ expressions.meaning a (x ∷ us) parts
 same_expression expression.Nothing x ts us parts = refl
 same_expression expression.IntCast x ts us parts = same_cast parts.first x ts us
 same_expression _ x ts us parts = refl
 
-same_clause : (a : clause_actions.Action) (x : PlainLexeme) (ts us : List PlainLexeme) (parts : NodeParts PlainValue) → clauses.meaning a (x ∷ ts) parts ≡ clauses.meaning a (x ∷ us) parts
+same_clause : (a : clause_actions.Action) (x : PlainLexeme) (ts us : List PlainLexeme) (parts : NodeParts PlainValue)
+    → clauses.meaning a (x ∷ ts) parts ≡ clauses.meaning a (x ∷ us) parts
 same_clause clause.AllClauses x ts us parts = refl
 same_clause _ x ts us parts = refl
 
-same_meaning : (a : Action) (x : PlainLexeme) (ts us : List PlainLexeme) (parts : NodeParts PlainValue) → meaning_by a (x ∷ ts) parts ≡ meaning_by a (x ∷ us) parts
+same_meaning : (a : Action) (x : PlainLexeme) (ts us : List PlainLexeme) (parts : NodeParts PlainValue)
+    → meaning_by a (x ∷ ts) parts ≡ meaning_by a (x ∷ us) parts
 same_meaning (actions.Expression a) x ts us parts = same_expression a x ts us parts
 same_meaning (actions.Clause a) x ts us parts = same_clause a x ts us parts
 
-pub values_near : (p : ℕ) (r : Production) (ts us : List PlainLexeme) (vs : List PlainValue) → slice_get jml_productions p ≡ Some r → slice_get ts 0 ≡ slice_get us 0
+pub values_near : (p : ℕ) (r : Production) (ts us : List PlainLexeme) (vs : List PlainValue) → slice_get jml_productions p ≡ Some r
+    → slice_get ts 0 ≡ slice_get us 0
     → (5 ≤ token_count r.body → slice_get ts 4 ≡ slice_get us 4) → value_of_node p ts vs ≡ value_of_node p us vs
 values_near p r [] [] vs at e five = refl
 values_near p r [] (y ∷ us) vs at e five = absurd (none-some y e)
@@ -151,22 +157,26 @@ values_near p r (x ∷ ts) (y ∷ us) vs at e five =
 
 -- ---- texts
 
-same_body : (ss : List Symbol) (x : PlainLexeme) (ts us : List PlainLexeme) (parts : NodeParts Texts) → body_texts ss (x ∷ ts) parts ≡ body_texts ss (x ∷ us) parts
+same_body : (ss : List Symbol) (x : PlainLexeme) (ts us : List PlainLexeme) (parts : NodeParts Texts)
+    → body_texts ss (x ∷ ts) parts ≡ body_texts ss (x ∷ us) parts
 same_body [] x ts us parts = refl
 same_body (Token kind ∷ ss) x ts us parts = ap (λ ys. token_text kind (x ∷ ts) ++ ys) (same_body ss x ts us parts)
 same_body (Name a ∷ []) x ts us parts = refl
 same_body (Name a ∷ s ∷ ss) x ts us parts = ap (λ ys. parts.first ++ ys) (same_body (s ∷ ss) x ts us (rest [] parts))
 
-same_production : (r : Production) (x : PlainLexeme) (ts us : List PlainLexeme) (parts : NodeParts Texts) → production_texts r (x ∷ ts) parts ≡ production_texts r (x ∷ us) parts
+same_production : (r : Production) (x : PlainLexeme) (ts us : List PlainLexeme) (parts : NodeParts Texts)
+    → production_texts r (x ∷ ts) parts ≡ production_texts r (x ∷ us) parts
 same_production r x ts us parts =
     two (λ a b. cond (r.head == names.IDENTIFIER) (text_of (x ∷ ts) ∷ []) (cond (r.head == names.CONTRACT) a b))
     (same_body (without_also r.body) x ts us parts)
     (same_body r.body x ts us parts)
 
-texts_by : (p : ℕ) (r : Production) (ts : List PlainLexeme) (xs : List Texts) → slice_get jml_productions p ≡ Some r → texts_of_node p ts xs ≡ production_texts r ts (filled (all_of []) xs)
+texts_by : (p : ℕ) (r : Production) (ts : List PlainLexeme) (xs : List Texts) → slice_get jml_productions p ≡ Some r
+    → texts_of_node p ts xs ≡ production_texts r ts (filled (all_of []) xs)
 texts_by p r ts xs at = ap (λ o. option_map_or (λ s. production_texts s ts (filled (all_of []) xs)) o []) at
 
-pub texts_near : (p : ℕ) (r : Production) (ts us : List PlainLexeme) (xs : List Texts) → slice_get jml_productions p ≡ Some r → slice_get ts 0 ≡ slice_get us 0
+pub texts_near : (p : ℕ) (r : Production) (ts us : List PlainLexeme) (xs : List Texts) → slice_get jml_productions p ≡ Some r
+    → slice_get ts 0 ≡ slice_get us 0
     → (5 ≤ token_count r.body → slice_get ts 4 ≡ slice_get us 4) → texts_of_node p ts xs ≡ texts_of_node p us xs
 texts_near p r [] [] xs at e five = refl
 texts_near p r [] (y ∷ us) xs at e five = absurd (none-some y e)
@@ -192,7 +202,8 @@ place_same n ts us e = ap (λ (o : Option PlainLexeme). option_map_or (λ (l : P
 text_same : (ts us : List PlainLexeme) → slice_get ts 0 ≡ slice_get us 0 → text_of ts ≡ text_of us
 text_same ts us e = ap (λ (o : Option PlainLexeme). option_map_or (λ (l : PlainLexeme). word_in l.token.kind) o []) e
 
-same_made : (rule : Rule) (ts us : List PlainLexeme) (parts : NodeParts PlainForm) → slice_get ts 0 ≡ slice_get us 0 → (is_sum rule ≡ true → slice_get ts 4 ≡ slice_get us 4) → made rule ts parts ≡ made rule us parts
+same_made : (rule : Rule) (ts us : List PlainLexeme) (parts : NodeParts PlainForm) → slice_get ts 0 ≡ slice_get us 0
+    → (is_sum rule ≡ true → slice_get ts 4 ≡ slice_get us 4) → made rule ts parts ≡ made rule us parts
 same_made rules.Identifier ts us parts e five = ap (λ x. of_kind (forms.Name x)) (text_same ts us e)
 same_made rules.CastOperand ts us parts e five = ap (λ at. record (above forms.Other (in_order empty parts.first)) { cast = Some at }) (place_same 0 ts us e)
 same_made rules.Sum ts us parts e five =
@@ -204,7 +215,8 @@ same_high_at : (ts us : List PlainLexeme) (h : ℕ) (o : Option ℕ) → slice_g
 same_high_at ts us h (Some at) e = refl
 same_high_at ts us h None e = ap (λ at. cond (nat_lt 200 h) (Some at) None) (place_same 0 ts us e)
 
-pub forms_near : (p : ℕ) (r : Production) (ts us : List PlainLexeme) (fs : List PlainForm) → slice_get jml_productions p ≡ Some r → slice_get ts 0 ≡ slice_get us 0
+pub forms_near : (p : ℕ) (r : Production) (ts us : List PlainLexeme) (fs : List PlainForm) → slice_get jml_productions p ≡ Some r
+    → slice_get ts 0 ≡ slice_get us 0
     → (5 ≤ token_count r.body → slice_get ts 4 ≡ slice_get us 4) → form_of_node p ts fs ≡ form_of_node p us fs
 forms_near p r ts us fs at e five =
     let parts = filled (all_of empty) fs in

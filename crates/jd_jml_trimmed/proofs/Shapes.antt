@@ -34,7 +34,8 @@ abbrev pub passes : (ℕ → Production → Bool) → ℕ → List Production �
 passes test n [] = true
 passes test n (r ∷ rs) = test n r && passes test (n + 1) rs
 
-passes_at : (test : ℕ → Production → Bool) (g : List Production) (n p : ℕ) (r : Production) → passes test n g ≡ true → slice_get g p ≡ Some r → test (n + p) r ≡ true
+passes_at : (test : ℕ → Production → Bool) (g : List Production) (n p : ℕ) (r : Production) → passes test n g ≡ true → slice_get g p ≡ Some r
+    → test (n + p) r ≡ true
 passes_at test [] n p r all e = absurd (none-some r e)
 passes_at test (x ∷ g) n zero r all e =
     let same : n ≡ n + 0 = omega arith in
@@ -43,7 +44,8 @@ passes_at test (x ∷ g) n (suc p) r all e =
     let same : n + 1 + p ≡ n + suc p = omega arith in
     subst (λ m. test m r ≡ true) same (passes_at test g (n + 1) p r (and_parts (test n x) (passes test (n + 1) g) all).1 e)
 
-pub tested : (test : ℕ → Production → Bool) (p : ℕ) (r : Production) → passes test 0 jml_productions ≡ true → slice_get jml_productions p ≡ Some r → test p r ≡ true
+pub tested : (test : ℕ → Production → Bool) (p : ℕ) (r : Production) → passes test 0 jml_productions ≡ true → slice_get jml_productions p ≡ Some r
+    → test p r ≡ true
 tested test p r all e =
     let same : 0 + p ≡ p = omega arith in
     subst (λ m. test m r ≡ true) same (passes_at test jml_productions 0 p r all e)
@@ -111,7 +113,8 @@ known_at p r at =
 abbrev IsKind : ℕ → Type 0
 IsKind k = nat_lt k 255 ≡ true
 
-ahead_is_kind : (f : Forest) (ss : List Symbol) (after : List ℕ) → IsShape f ss → are_kinds ss ≡ true → IsKind (ahead after) → IsKind (ahead (yield f ++ after))
+ahead_is_kind : (f : Forest) (ss : List Symbol) (after : List ℕ) → IsShape f ss → are_kinds ss ≡ true → IsKind (ahead after)
+    → IsKind (ahead (yield f ++ after))
 ahead_is_kind Done [] after h u v = v
 ahead_is_kind Done (s ∷ ss) after h u v = absurd h
 ahead_is_kind (Leaf k f) [] after h u v = absurd h
@@ -126,7 +129,8 @@ ahead_is_kind (Node p c f) (Name a ∷ ss) after (r, at, is, below, behind) u v 
 not_unless : (n k : ℕ) → n ≡ 255 → IsKind k → n ≢ k
 not_unless n k e v is = false≢true (subst IsKind (sym is ∙ e) v)
 
-placed_before : (f : Forest) (ss : List Symbol) (after : List ℕ) → IsShape f ss → are_kinds ss ≡ true → IsKind (ahead after) → IsForest jml_productions f ss after
+placed_before : (f : Forest) (ss : List Symbol) (after : List ℕ) → IsShape f ss → are_kinds ss ≡ true → IsKind (ahead after)
+    → IsForest jml_productions f ss after
 placed_before Done [] after h u v = tt
 placed_before Done (s ∷ ss) after h u v = absurd h
 placed_before (Leaf k f) [] after h u v = absurd h
@@ -151,7 +155,8 @@ placed f a h = placed_before f (Name a ∷ []) [] h refl refl
 
 -- ---- how many
 
-pub count : {T V : Type 0} (make : ℕ → List T → List V → V) (f : Forest) (ss : List Symbol) (ts : List T) → IsShape f ss → length (values make f ts) ≡ name_count ss
+pub count : {T V : Type 0} (make : ℕ → List T → List V → V) (f : Forest) (ss : List Symbol) (ts : List T) → IsShape f ss
+    → length (values make f ts) ≡ name_count ss
 count make Done [] ts h = refl
 count make Done (s ∷ ss) ts h = absurd h
 count make (Leaf k f) [] ts h = absurd h

@@ -34,7 +34,8 @@ pub record Told : Type 0 where
 abbrev pub tells : List PlainClause → Option ℕ → Option ℕ → Texts → Told
 tells cs f h xs = record { clauses = cs; fault = f; high = h; texts = xs }
 
-pub four : {A B C D E : Type 0} (f : A → B → C → D → E) {a a' : A} {b b' : B} {c c' : C} {d d' : D} → a ≡ a' → b ≡ b' → c ≡ c' → d ≡ d' → f a b c d ≡ f a' b' c' d'
+pub four : {A B C D E : Type 0} (f : A → B → C → D → E) {a a' : A} {b b' : B} {c c' : C} {d d' : D} → a ≡ a' → b ≡ b' → c ≡ c' → d ≡ d'
+    → f a b c d ≡ f a' b' c' d'
 four f {a} {a'} {b} {b'} {c} {c'} {d} {d'} e g h i = ap (λ x. f x b c d) e ∙ ap (λ x. f a' x c d) g ∙ ap (λ x. f a' b' x d) h ∙ ap (f a' b' c') i
 
 abbrev pub nothing : Told
@@ -70,7 +71,8 @@ pub alone : (p : ℕ) (c : Forest) (ts : List PlainLexeme) → total (Node p c D
 alone p c ts = beside_nothing (node p c ts)
 
 -- what a whole tree tells
-pub tree_tells : (f : Forest) (a : ℕ) (ts : List PlainLexeme) → IsShape f (Name a ∷ []) → total f ts ≡ tells (clauses_of_tree f ts) (form_of f ts).fault (form_of f ts).high (texts_of_tree f ts)
+pub tree_tells : (f : Forest) (a : ℕ) (ts : List PlainLexeme) → IsShape f (Name a ∷ [])
+    → total f ts ≡ tells (clauses_of_tree f ts) (form_of f ts).fault (form_of f ts).high (texts_of_tree f ts)
 tree_tells Done a ts h = absurd h
 tree_tells (Leaf k f) a ts h = absurd h
 tree_tells (Node p c Done) a ts h = alone p c ts

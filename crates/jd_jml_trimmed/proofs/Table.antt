@@ -49,7 +49,8 @@ texts2 (a ∷ []) n = let no_more : ⊥ = omega (arith, n) in absurd no_more
 texts2 (a ∷ b ∷ []) n = ap (λ ys. a ++ ys) (sym (append-nil b))
 texts2 (a ∷ b ∷ c ∷ xs) n = let no_more : ⊥ = omega (arith, n) in absurd no_more
 
-texts3 : (xs : List Texts) → length xs ≡ 3 → (filled (all_of []) xs).first ++ ((filled (all_of []) xs).second ++ (filled (all_of []) xs).third) ≡ joined xs
+texts3 : (xs : List Texts) → length xs ≡ 3
+    → (filled (all_of []) xs).first ++ ((filled (all_of []) xs).second ++ (filled (all_of []) xs).third) ≡ joined xs
 texts3 [] n = let no_more : ⊥ = omega (arith, n) in absurd no_more
 texts3 (a ∷ []) n = let no_more : ⊥ = omega (arith, n) in absurd no_more
 texts3 (a ∷ b ∷ []) n = let no_more : ⊥ = omega (arith, n) in absurd no_more
@@ -249,12 +250,14 @@ leads_up p r = implies (is_inner r.head) (all_upper r.body && all_low r.body)
 all_lead_up : passes leads_up 0 jml_productions ≡ true
 all_lead_up = refl
 
-pub parts_are : (p : ℕ) (r : Production) → slice_get jml_productions p ≡ Some r → is_inner r.head ≡ true → (all_upper r.body ≡ true) × (all_low r.body ≡ true)
+pub parts_are : (p : ℕ) (r : Production) → slice_get jml_productions p ≡ Some r → is_inner r.head ≡ true
+    → (all_upper r.body ≡ true) × (all_low r.body ≡ true)
 parts_are p r at u =
     and_parts (all_upper r.body) (all_low r.body) (implied (is_inner r.head) (all_upper r.body && all_low r.body) (tested leads_up p r all_lead_up at) u)
 
 -- what a node tells
-pub node_tells : (p : ℕ) (r : Production) → slice_get jml_productions p ≡ Some r → is_inner r.head ≡ true → (c : Forest) (ts : List PlainLexeme) → IsShape c r.body
+pub node_tells : (p : ℕ) (r : Production) → slice_get jml_productions p ≡ Some r → is_inner r.head ≡ true → (c : Forest) (ts : List PlainLexeme)
+    → IsShape c r.body
     → node p c ts ≡ beside (own p ts) (total c ts)
 node_tells p r at u c ts h =
     (line p r at u).told ts (values value_of_node c ts) (values form_of_node c ts) (values texts_of_node c ts)

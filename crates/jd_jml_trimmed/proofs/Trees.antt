@@ -76,8 +76,10 @@ ends_in_token p r = implies (list_any (nat_eq r.head) clause_names) (has_token r
 clauses_end_in_tokens : passes ends_in_token 0 jml_productions ≡ true
 clauses_end_in_tokens = refl
 
-same_node : {V : Type 0} (make : ℕ → List PlainLexeme → List V → V) → LooksNear make → (p : ℕ) (r : Production) (c : Forest) (ts bs cs : List PlainLexeme) → slice_get jml_productions p ≡ Some r
-    → has_token r.body ≡ true → is_closed r.body ≡ true → IsShape c r.body → kinds_of ts ≡ yield c → make p (ts ++ bs) (values make c (ts ++ bs)) ≡ make p (ts ++ cs) (values make c (ts ++ cs))
+same_node : {V : Type 0} (make : ℕ → List PlainLexeme → List V → V) → LooksNear make
+    → (p : ℕ) (r : Production) (c : Forest) (ts bs cs : List PlainLexeme) → slice_get jml_productions p ≡ Some r
+    → has_token r.body ≡ true → is_closed r.body ≡ true → IsShape c r.body → kinds_of ts ≡ yield c
+    → make p (ts ++ bs) (values make c (ts ++ bs)) ≡ make p (ts ++ cs) (values make c (ts ++ cs))
 same_node make looks p r c ts bs cs at has closed h e =
     let l : length ts ≡ length (yield c) = sym (length_kinds ts) ∙ ap length e in
     let n = long c r.body h in
@@ -86,7 +88,8 @@ same_node make looks p r c ts bs cs at has closed h e =
     looks p r (ts ++ bs) (ts ++ cs) (values make c (ts ++ bs)) at (agree 0 (omega (arith, l, n, o))) (λ five. agree 4 (omega (arith, l, n, five)))
     ∙ ap (make p (ts ++ cs)) (by_own_tokens make looks c r.body (ts ++ bs) (ts ++ cs) h closed (λ i lt. agree i (omega (arith, lt, l))))
 
-clause_stays : (p : ℕ) (r : Production) (c : Forest) (ts bs cs : List PlainLexeme) → slice_get jml_productions p ≡ Some r → list_any (nat_eq r.head) clause_names ≡ true → IsShape c r.body → kinds_of ts ≡ yield c
+clause_stays : (p : ℕ) (r : Production) (c : Forest) (ts bs cs : List PlainLexeme) → slice_get jml_productions p ≡ Some r
+    → list_any (nat_eq r.head) clause_names ≡ true → IsShape c r.body → kinds_of ts ≡ yield c
     → node p c (ts ++ bs) ≡ node p c (ts ++ cs)
 clause_stays p r c ts bs cs at u h e =
     let (has, closed) = and_parts (has_token r.body) (is_closed r.body) (implied (list_any (nat_eq r.head) clause_names) (has_token r.body && is_closed r.body) (tested ends_in_token p r clauses_end_in_tokens at) u) in
@@ -123,7 +126,8 @@ record NodeCut (p : ℕ) (c : Forest) (a : ℕ) (ts : List PlainLexeme) : Type 0
   without : AreWithout tokens ts
   same : (bs cs : List PlainLexeme) → node p c (ts ++ bs) ≡ node number below (tokens ++ cs)
 
-inner_cut : (p : ℕ) (r : Production) → slice_get jml_productions p ≡ Some r → is_inner r.head ≡ true → (c : Forest) (ts : List PlainLexeme) → IsShape c r.body → Cut c r.body ts → NodeCut p c r.head ts
+inner_cut : (p : ℕ) (r : Production) → slice_get jml_productions p ≡ Some r → is_inner r.head ≡ true → (c : Forest) (ts : List PlainLexeme)
+    → IsShape c r.body → Cut c r.body ts → NodeCut p c r.head ts
 inner_cut p r at u c ts h k =
     let m = (anew_at p r at u).anew k.forest k.tokens k.shape k.spelled k.below in
     record {
@@ -145,7 +149,8 @@ inner_cut p r at u c ts h k =
           ∙ m.same cs;
     }
 
-kept_cut : (p : ℕ) (r : Production) → slice_get jml_productions p ≡ Some r → not (is_inner r.head) ≡ true → list_any (nat_eq r.head) clause_names ≡ true → (c : Forest) (ts : List PlainLexeme)
+kept_cut : (p : ℕ) (r : Production) → slice_get jml_productions p ≡ Some r → not (is_inner r.head) ≡ true
+    → list_any (nat_eq r.head) clause_names ≡ true → (c : Forest) (ts : List PlainLexeme)
     → IsShape c r.body → kinds_of ts ≡ yield c → NodeCut p c r.head ts
 kept_cut p r at u v c ts h e =
     let (k, t) = lower_node p r c at u h in
@@ -164,7 +169,8 @@ kept_cut p r at u v c ts h e =
       same = λ bs cs. clause_stays p r c ts bs cs at v h e;
     }
 
-node_cut : (p : ℕ) (r : Production) (a : ℕ) → slice_get jml_productions p ≡ Some r → r.head ≡ a → is_upper a ≡ true → (c : Forest) (ts : List PlainLexeme) → IsShape c r.body → kinds_of ts ≡ yield c
+node_cut : (p : ℕ) (r : Production) (a : ℕ) → slice_get jml_productions p ≡ Some r → r.head ≡ a → is_upper a ≡ true
+    → (c : Forest) (ts : List PlainLexeme) → IsShape c r.body → kinds_of ts ≡ yield c
     → (all_upper r.body ≡ true → Cut c r.body ts) → NodeCut p c a ts
 node_cut p r a at is u c ts h e parts = subst (λ b. NodeCut p c b ts) is (by (is_inner r.head) refl (subst (λ b. is_upper b ≡ true) (sym is) u))
   where
@@ -172,10 +178,12 @@ node_cut p r a at is u c ts h e parts = subst (λ b. NodeCut p c b ts) is (by (i
     by true i v = inner_cut p r at i c ts h (parts (parts_are p r at i).0)
     by false i v = kept_cut p r at (not_from_false (is_inner r.head) i) v c ts h e
 
-total_node : (p : ℕ) (c f : Forest) (xs zs : List PlainLexeme) → kinds_of xs ≡ yield c → total (Node p c f) (xs ++ zs) ≡ beside (node p c (xs ++ zs)) (total f zs)
+total_node : (p : ℕ) (c f : Forest) (xs zs : List PlainLexeme) → kinds_of xs ≡ yield c
+    → total (Node p c f) (xs ++ zs) ≡ beside (node p c (xs ++ zs)) (total f zs)
 total_node p c f xs zs e = ap (λ us. beside (node p c (xs ++ zs)) (total f us)) (drop_kinds xs (yield c) zs e)
 
-put : (p : ℕ) (c f : Forest) (a : ℕ) (ss : List Symbol) (ts xs ys : List PlainLexeme) → ts ≡ xs ++ ys → kinds_of xs ≡ yield c → NodeCut p c a xs → Cut f ss ys → Cut (Node p c f) (Name a ∷ ss) ts
+put : (p : ℕ) (c f : Forest) (a : ℕ) (ss : List Symbol) (ts xs ys : List PlainLexeme) → ts ≡ xs ++ ys → kinds_of xs ≡ yield c → NodeCut p c a xs
+    → Cut f ss ys → Cut (Node p c f) (Name a ∷ ss) ts
 put p c f a ss ts xs ys is e n k = subst (Cut (Node p c f) (Name a ∷ ss)) (sym is) both
   where
     both : Cut (Node p c f) (Name a ∷ ss) (xs ++ ys)
@@ -242,7 +250,8 @@ starts_are_upper = refl
 starts_are_seen : (a : ℕ) → all_seen (Name a ∷ []) ≡ true
 starts_are_seen a = refl
 
-pub trimmed : (f : Forest) (place : ℕ) (ts : List PlainLexeme) → is_place place ≡ true → IsForest jml_productions f (Name place ∷ []) [] → yield f ≡ kinds_of ts → Trimmed f place ts
+pub trimmed : (f : Forest) (place : ℕ) (ts : List PlainLexeme) → is_place place ≡ true → IsForest jml_productions f (Name place ∷ []) []
+    → yield f ≡ kinds_of ts → Trimmed f place ts
 trimmed f place ts at h e =
     let shape = shape_of f (Name place ∷ []) [] h in
     let k = cut f (Name place ∷ []) ts shape (and_from (is_upper place) true (all_of_these is_upper STARTS place starts_are_upper at) refl) (sym e) in

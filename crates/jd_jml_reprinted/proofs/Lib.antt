@@ -1,0 +1,5 @@
+mod Alone
+mod Words
+mod Leaves
+mod Whole
+mod Back
