@@ -1,5 +1,5 @@
 -- A list of bytes that is taken or put piece by piece.
-use Rattle.std.proofs.Common.{◌≡◌, ◌<◌, ◌≤◌, ◌+◌, ◌-◌, ◌++◌, ℕ, List, Option, Some, length, take, drop, ap, sym, ◌∙◌, refl, [], arith, append-nil, append_assoc, length-drop}
+use Rattle.std.proofs.Common.{◌≡◌, ◌<◌, ◌≤◌, ◌+◌, ◌-◌, ◌++◌, ℕ, List, Option, Some, length, take, drop, ap, sym, subst, ◌∙◌, refl, [], arith, append-nil, append_assoc, length-drop}
 use Rattle.std.proofs.lemmas.List.{length-take, take_all, take_at}
 use Rattle.std.proofs.Math.Seq.{take-add}
 use Rattle.std.specs.Option.{ForSome}
@@ -60,22 +60,24 @@ Reading-more {contents} {contents'} {after} {faults} {faults'} {later} {name} {t
     }
 
 -- what the loop of `write_all` keeps: only what was written grows, and it is a prefix
-pub record Writing (bytes bytes' : Option (List ℕ)) (faults faults' : ℕ) (all : List ℕ) (written : ℕ) : Type 0 where
+pub record Writing (bytes bytes' : Option (List ℕ)) (faults faults' : ℕ) (steady steady' : ℕ → Type 0) (all : List ℕ) (written : ℕ) : Type 0 where
   pub within : written ≤ length all
   pub count : faults' ≡ faults
   pub added : ForSome bytes (λ told. bytes' ≡ Some (told ++ take written all))
+  pub left : (n : ℕ) → steady (written + n) → steady' n
 
 -- before the first write
-pub Writing-start : (bytes : Option (List ℕ)) (faults : ℕ) (all : List ℕ) → Writing bytes bytes faults faults all 0
-Writing-start bytes faults all = record {
+pub Writing-start : (bytes : Option (List ℕ)) (faults : ℕ) (steady : ℕ → Type 0) (all : List ℕ) → Writing bytes bytes faults faults steady steady all 0
+Writing-start bytes faults steady all = record {
   within = omega arith;
   count = refl;
   added = λ told is. is ∙ ap Some (sym (append-nil told));
+  left = λ n is. subst steady (omega arith) is;
 }
 
 -- one write more, of a piece of the rest
-pub Writing-more : {bytes bytes' after : Option (List ℕ)} {faults faults' later : ℕ} (all : List ℕ) (written n : ℕ) → Writing bytes bytes' faults faults' all written → n ≤ length (take (length all - written) (drop written all)) → later ≡ faults' → ForSome bytes' (λ told. after ≡ Some (told ++ take n (take (length all - written) (drop written all)))) → Writing bytes after faults later all (written + n)
-Writing-more all written n had bound same more =
+pub Writing-more : {bytes bytes' after : Option (List ℕ)} {faults faults' later : ℕ} {steady steady' still : ℕ → Type 0} (all : List ℕ) (written n : ℕ) → Writing bytes bytes' faults faults' steady steady' all written → n ≤ length (take (length all - written) (drop written all)) → later ≡ faults' → ForSome bytes' (λ told. after ≡ Some (told ++ take n (take (length all - written) (drop written all)))) → ((k : ℕ) → steady' (n + k) → still k) → Writing bytes after faults later steady still all (written + n)
+Writing-more {steady = steady} all written n had bound same more fewer =
     let room = had.within in
     let rest : length (drop written all) ≡ length all - written = length-drop written all in
     let whole : take (length all - written) (drop written all) ≡ drop written all = take_all _ (drop written all) (omega arith) in
@@ -86,4 +88,5 @@ Writing-more all written n had bound same more =
       within = omega arith;
       count = same ∙ had.count;
       added = λ told is. more _ (had.added told is) ∙ ap Some (grown told);
+      left = λ k is. fewer k (had.left (n + k) (subst steady (omega arith) is));
     }

@@ -20,3 +20,7 @@ NoCountFell before after = (name : List ℕ) → before name ≤ after name
 -- no file's contents changed
 abbrev pub SameContents : (List ℕ → Option (List ℕ)) → (List ℕ → Option (List ℕ)) → Type 0
 SameContents before after = (name : List ℕ) → after name ≡ before name
+
+-- at the names at which reading did not fail it still does not
+abbrev pub StaySteady : (List ℕ → Type 0) → (List ℕ → Type 0) → Type 0
+StaySteady before after = (name : List ℕ) → before name → after name

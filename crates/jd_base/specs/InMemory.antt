@@ -1,5 +1,5 @@
 -- Files and written bytes that are kept in memory, as they are seen.
-use Rattle.std.specs.Prelude.{ℕ, ◌-◌, List, [], ◌∷◌, Option, Some, None, is_some, Contains, if◌then◌else◌, length, String, string_bytes, Vec}
+use Rattle.std.specs.Prelude.{◌≡◌, ℕ, ◌≤◌, ◌-◌, List, [], ◌∷◌, Option, Some, None, is_some, IsSome, Contains, if◌then◌else◌, length, String, string_bytes, Vec}
 use Rattle.std.specs.Global.{Global}
 use Rattle.std.specs.Str.{bytes_eq}
 use Rattle.jd_base.specs.Faults.{next_count}
@@ -42,3 +42,11 @@ FailsNext fails calls = Contains fails (next_count calls)
 -- how many bytes have room still
 abbrev pub room_left : Written → ℕ
 room_left sink = sink.room - length sink.bytes
+
+-- no call is one of those that fail, and the name is held
+abbrev pub IsSteady : Files → List ℕ → Type 0
+IsSteady held name = (held.fails ≡ []) × IsSome (contents_of held.files name)
+
+-- no call is one of those that fail, and so many bytes have room still
+abbrev pub HasSteadyRoom : Written → ℕ → Type 0
+HasSteadyRoom sink n = (sink.fails ≡ []) × (n ≤ room_left sink)

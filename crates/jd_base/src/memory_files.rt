@@ -1,7 +1,7 @@
 ghost use Rattle.std.specs.Prelude.{◌≡◌, ◌<◌, ◌≤◌, ◌-◌, ℕ, List, [], length, take, drop, min, map, IfOk, OnOk, OnErr, IsOk, IsErr, IsSome, IsNone};
 ghost use Rattle.std.specs.Option.{ForSome, option_copied};
-ghost use Rattle.jd_base.specs.Faults.{Rose, next_count, SameCounts, NoCountFell, SameContents};
-ghost use Rattle.jd_base.specs.InMemory.{file_of, contents_of, faults_of, FailsNext};
+ghost use Rattle.jd_base.specs.Faults.{Rose, next_count, SameCounts, NoCountFell, SameContents, StaySteady};
+ghost use Rattle.jd_base.specs.InMemory.{file_of, contents_of, faults_of, FailsNext, IsSteady};
 
 use crate::outside::{Failed, Library};
 use std::marker::Model;
@@ -55,6 +55,8 @@ impl Library for MemoryLibrary {
 
     ghost faults = { faults_of };
 
+    ghost steady = { IsSteady };
+
     fn read(&mut self, name: &str, at: u64, into: &mut [u8]) -> Result<usize, Failed>
         ensures bound { IfOk result (λ n. n ≤ length into.old) }
         ensures bytes { IfOk result (λ n. ForSome (contents_of self.old.files name.now)
@@ -67,6 +69,8 @@ impl Library for MemoryLibrary {
         ensures fault { OnErr result (Rose (faults_of self.old name.now) (faults_of self.new name.now)) }
         ensures counts { NoCountFell (faults_of self.old) (faults_of self.new) }
         ensures kept { SameContents (contents_of self.old.files) (contents_of self.new.files) }
+        ensures steadily { IsSteady self.old name.now → IsOk result }
+        ensures still_steady { StaySteady (IsSteady self.old) (IsSteady self.new) }
 
         // A name that is not held always fails; one that is held fails where the list says so, and
         // else gives as many bytes as there are and fit.

@@ -1,7 +1,7 @@
-ghost use Rattle.std.specs.Prelude.{◌≡◌, ◌<◌, ◌≤◌, ◌-◌, ◌++◌, [], length, take, min, Some, IfOk, OnOk, OnErr, IsOk, IsErr};
+ghost use Rattle.std.specs.Prelude.{◌≡◌, ◌<◌, ◌≤◌, ◌+◌, ◌-◌, ◌++◌, ℕ, [], length, take, min, Some, IfOk, OnOk, OnErr, IsOk, IsErr};
 ghost use Rattle.std.specs.Option.{ForSome};
 ghost use Rattle.jd_base.specs.Faults.{Rose, next_count};
-ghost use Rattle.jd_base.specs.InMemory.{room_left, FailsNext};
+ghost use Rattle.jd_base.specs.InMemory.{room_left, FailsNext, HasSteadyRoom};
 
 use crate::memory::NoMemory;
 use crate::outside::{Failed, Sink};
@@ -64,6 +64,8 @@ impl Sink for MemorySink {
 
     ghost faults = { λ sink. sink.faults };
 
+    ghost steady = { HasSteadyRoom };
+
     fn write(&mut self, piece: &[u8]) -> Result<usize, Failed>
         ensures bound { IfOk result (λ n. n ≤ length piece.now) }
         ensures progress { IfOk result (λ n. 0 < length piece.now → 0 < n) }
@@ -73,6 +75,8 @@ impl Sink for MemorySink {
         ensures no_fault { OnOk result (self.new.faults ≡ self.old.faults) }
         ensures fault { OnErr result (Rose self.old.faults self.new.faults) }
         ensures counts { self.old.faults ≤ self.new.faults }
+        ensures steadily { HasSteadyRoom self.old (length piece.now) → IsOk result }
+        ensures still_steady { IfOk result (λ k. (n : ℕ) → HasSteadyRoom self.old (k + n) → HasSteadyRoom self.new n) }
 
         // A write fails where the list says so, and where it has bytes and there is room for none;
         // else it takes as many bytes as have room.

@@ -1,6 +1,6 @@
-ghost use Rattle.std.specs.Prelude.{◌≡◌, ◌<◌, ◌≤◌, ◌++◌, ℕ, List, Option, length, take, drop, IfOk, OnOk, OnErr};
+ghost use Rattle.std.specs.Prelude.{◌≡◌, ◌<◌, ◌≤◌, ◌+◌, ◌++◌, ℕ, List, Option, length, take, drop, IfOk, OnOk, OnErr, IsOk};
 ghost use Rattle.std.specs.Option.{ForSome};
-ghost use Rattle.jd_base.specs.Faults.{Rose, SameCounts, NoCountFell, SameContents};
+ghost use Rattle.jd_base.specs.Faults.{Rose, SameCounts, NoCountFell, SameContents, StaySteady};
 
 use std::error::Error;
 use std::fmt;
@@ -25,6 +25,9 @@ pub trait Library {
     // For each name a count of faults, which never falls.
     ghost faults: { Self → List ℕ → ℕ };
 
+    // The names at which reading does not fail, where it is known.
+    ghost steady: { Self → List ℕ → Type 0 };
+
     /// Reads bytes of a file, from byte `at` on, to the beginning of `into`, and answers how many.
     ///
     /// # Errors
@@ -44,7 +47,11 @@ pub trait Library {
         ensures no_fault { OnOk result (SameCounts (faults self.old) (faults self.new)) }
         ensures fault { OnErr result (Rose (faults self.old name.now) (faults self.new name.now)) }
         ensures counts { NoCountFell (faults self.old) (faults self.new) }
-        ensures kept { SameContents (contents self.old) (contents self.new) };
+        ensures kept { SameContents (contents self.old) (contents self.new) }
+
+        // Where reading does not fail it gives bytes, and no read changes where it does not.
+        ensures steadily { steady self.old name.now → IsOk result }
+        ensures still_steady { StaySteady (steady self.old) (steady self.new) };
 }
 
 /// A place to which bytes are written, and how often writing failed.
@@ -54,6 +61,9 @@ pub trait Sink {
 
     // A count of faults, which never falls.
     ghost faults: { Self → ℕ };
+
+    // How many bytes more are written without a failure, where it is known.
+    ghost steady: { Self → ℕ → Type 0 };
 
     /// Adds bytes from the beginning of the piece, and answers how many.
     ///
@@ -69,5 +79,9 @@ pub trait Sink {
 
         ensures no_fault { OnOk result (faults self.new ≡ faults self.old) }
         ensures fault { OnErr result (Rose (faults self.old) (faults self.new)) }
-        ensures counts { faults self.old ≤ faults self.new };
+        ensures counts { faults self.old ≤ faults self.new }
+
+        // A piece of that many bytes is written, and then as many more as were not taken from them.
+        ensures steadily { steady self.old (length piece.now) → IsOk result }
+        ensures still_steady { IfOk result (λ k. (n : ℕ) → steady self.old (k + n) → steady self.new n) };
 }

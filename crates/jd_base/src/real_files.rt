@@ -35,6 +35,8 @@ impl<R: Files> Library for FileLibrary<R> {
 
     ghost faults = { λ faults _. faults };
 
+    ghost steady = { λ _ _. ⊥ };
+
     fn read(&mut self, name: &str, at: u64, into: &mut [u8]) -> Result<usize, Failed> {
         match read_file(&self.runtime, name, at, into) {
             Ok(count) => Ok(count),
@@ -82,6 +84,8 @@ impl<R: Print> Sink for StdSink<R> {
     ghost bytes = { λ _. None };
 
     ghost faults = { λ faults. faults };
+
+    ghost steady = { λ _ _. ⊥ };
 
     fn write(&mut self, piece: &[u8]) -> Result<usize, Failed> {
         match self.runtime.write_some(piece) {

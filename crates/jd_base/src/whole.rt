@@ -1,6 +1,6 @@
-ghost use Rattle.std.specs.Prelude.{◌≡◌, ◌<◌, ◌≤◌, ◌++◌, ℕ, length, take, vec_len, IfOk, OnOk, OnErr, IsErr, IsErrOf};
+ghost use Rattle.std.specs.Prelude.{◌≡◌, ◌<◌, ◌≤◌, ◌+◌, ◌++◌, ℕ, length, take, vec_len, IfOk, OnOk, OnErr, IsOk, IsErr, IsErrOf};
 ghost use Rattle.std.specs.Option.{ForSome};
-ghost use Rattle.jd_base.specs.Faults.{Rose, SameCounts, NoCountFell, SameContents};
+ghost use Rattle.jd_base.specs.Faults.{Rose, SameCounts, NoCountFell, SameContents, StaySteady};
 ghost use Rattle.jd_base.specs.declared.whole.ReadRefusal.TheVariants.{Fault, NoMemory as OutOfMemory};
 
 use crate::memory::NoMemory;
@@ -92,6 +92,10 @@ pub fn read_whole<L: Library>(
 
     ensures counts { NoCountFell (L.faults library.old) (L.faults library.new) }
     ensures kept { SameContents (L.contents library.old) (L.contents library.new) }
+
+    // Where reading does not fail, neither does this, and no more does it after it.
+    ensures steadily { L.steady library.old name.now → ¬ IsErrOf result ReadRefusal.Fault }
+    ensures still_steady { StaySteady (L.steady library.old) (L.steady library.new) }
 {
     let mut piece = vec![in alloc; 0u8; PIECE]?;
     let mut bytes = Vec::new(alloc);
@@ -122,6 +126,10 @@ pub fn write_all<S: Sink>(sink: &mut S, bytes: &[u8]) -> Result<(), Failed>
     ensures fault { OnErr result (Rose (S.faults sink.old) (S.faults sink.new)) }
     ensures always_fault { S.faults sink.old < S.faults sink.new → IsErr result }
     ensures counts { S.faults sink.old ≤ S.faults sink.new }
+
+    // Where so many bytes are written without a failure, all are, and then as many more as that leaves.
+    ensures steadily { S.steady sink.old (length bytes.now) → IsOk result }
+    ensures still_steady { OnOk result ((n : ℕ) → S.steady sink.old (length bytes.now + n) → S.steady sink.new n) }
 {
     let mut written = 0;
     while written < bytes.len() {

@@ -5,7 +5,7 @@ use Rattle.jd_base.proofs.whole.read_whole.Goals as goal
 
 pub loop-bytes-init : goal.loop-bytes-init
 loop-bytes-init g c =
-    (c.in_ok-piece.ensures.len, Reading-start _ _ _ _ _ _ c.new-bytes.ensures.len c.new-bytes.ensures.items)
+    (c.in_ok-piece.ensures.len, Reading-start _ _ _ _ _ _ c.new-bytes.ensures.len c.new-bytes.ensures.items, λ _ is. is)
 
 pub returns-in_err-taken-clause-fault : goal.returns-in_err-taken-clause-fault
 returns-in_err-taken-clause-fault g c = λ _ low.
@@ -68,6 +68,7 @@ loop-bytes-preserved g c =
           (omega (arith, c.if-taken-limit.false, c.len-in-loop-bytes.ensures))
           (omega (arith, c.in_ok-extend_from_slice.ensures.len, length-take c.in_ok-taken.taken c.deref.result.now, c.in_ok-taken.ensures.bound, c.read.auto.into, ap length whole))
           (append_same _ _ _ _ _ c.in_ok-extend_from_slice.ensures.items whole),
+      λ q is. c.in_ok-taken.ensures.still_steady q (c.loop-bytes.invariant.2 q is),
     )
 
 pub returns-in_err-extend_from_slice-clause-always_fault :
@@ -91,3 +92,24 @@ pub returns-in_err-extend_from_slice-clause-kept :
     goal.returns-in_err-extend_from_slice-clause-kept
 returns-in_err-extend_from_slice-clause-kept g c = λ q.
     c.in_ok-taken.ensures.kept q ∙ c.loop-bytes.invariant.1.kept q
+
+pub returns-in_err-taken-clause-steadily : goal.returns-in_err-taken-clause-steadily
+returns-in_err-taken-clause-steadily g c = λ is _.
+    let failed = c.in_err-taken.ensures.steadily (c.loop-bytes.invariant.2 c.args.name.now is) in cc
+
+pub returns-in_err-taken-clause-still_steady : goal.returns-in_err-taken-clause-still_steady
+returns-in_err-taken-clause-still_steady g c = λ q is.
+    c.in_err-taken.ensures.still_steady q (c.loop-bytes.invariant.2 q is)
+
+pub returns-then-taken-eq0-clause-still_steady : goal.returns-then-taken-eq0-clause-still_steady
+returns-then-taken-eq0-clause-still_steady g c = λ q is.
+    c.in_ok-taken.ensures.still_steady q (c.loop-bytes.invariant.2 q is)
+
+pub returns-then-taken-limit-clause-still_steady : goal.returns-then-taken-limit-clause-still_steady
+returns-then-taken-limit-clause-still_steady g c = λ q is.
+    c.in_ok-taken.ensures.still_steady q (c.loop-bytes.invariant.2 q is)
+
+pub returns-in_err-extend_from_slice-clause-still_steady :
+    goal.returns-in_err-extend_from_slice-clause-still_steady
+returns-in_err-extend_from_slice-clause-still_steady g c = λ q is.
+    c.in_ok-taken.ensures.still_steady q (c.loop-bytes.invariant.2 q is)
