@@ -6,8 +6,8 @@ use Rattle.std.specs.List.{Contains}
 use Rattle.std.proofs.lemmas.List.Elements.{Contains-get_or}
 use Rattle.std.specs.Prelude.{String, string_bytes}
 use Rattle.std.specs.Global.{Global, Vec}
-use Rattle.jd_base.specs.Faults.{Rose, SameContents, SameCounts}
-use Rattle.jd_answer.specs.ReadFaults.{HasRisen}
+use Rattle.jd_base.specs.Faults.{Rose, SameContents, SameCounts, StaySteady}
+use Rattle.jd_answer.specs.ReadFaults.{AreSteady, HasRisen}
 use Rattle.jd_answer.specs.Words.{word_texts}
 use Rattle.jd_files.specs.Files.{file_limit}
 use Rattle.jd_answer.specs.Answers.{AreTold, HaveBytes, HaveLongFile, long, behind}
@@ -109,6 +109,10 @@ module _ (contents later : List ℕ → Option (List ℕ)) (same : SameContents 
     among = subst (Contains (word_texts names)) (sym named_so) (Contains-get_or (word_texts names) i n within_words);
     rose = subst (λ k. Rose k (last n)) (counts n) rose;
   }
+
+  pub is_steady : (steady still : List ℕ → Type 0) → AreSteady (word_texts names) steady → StaySteady steady still → still n
+  is_steady steady still all stay =
+      stay n (all n (subst (Contains (word_texts names)) (sym named_so) (Contains-get_or (word_texts names) i n within_words)))
 
 pub all_read : (contents : List ℕ → Option (List ℕ)) (names : List (String Global)) (i : ℕ) (fs : List (Vec ℕ)) → length names ≤ i → AreReadTo contents (word_texts names) i (map (λ f. f.items) fs) → AreTold contents (word_texts names) → HaveBytes contents (word_texts names) (map (λ f. f.items) fs)
 all_read contents names i fs past so_far told =

@@ -1,8 +1,8 @@
 -- What the reading of all files tells.
 use Rattle.std.proofs.Common.{◌≡◌, ◌<◌, ◌≤◌, ℕ, List, [], ◌∷◌, length, Option, Some, ap, sym, subst, ◌∙◌}
 use Rattle.std.specs.Option.{ForSome}
-use Rattle.std.proofs.lemmas.List.Elements.{Contains-append_right}
-use Rattle.jd_base.specs.Faults.{Rose, SameContents, SameCounts}
+use Rattle.std.proofs.lemmas.List.Elements.{Contains-append_left, Contains-append_right, Contains-push}
+use Rattle.jd_base.specs.Faults.{Rose, SameContents, SameCounts, StaySteady}
 use Rattle.jd_model.specs.Sequents.{PlainSequent}
 use Rattle.jd_sequent.specs.Trees.{PlainStep}
 use Rattle.jd_files.specs.Files.{files_limit}
@@ -10,7 +10,7 @@ use Rattle.jd_first_java.specs.Programs.{Program}
 use Rattle.jd_answer.specs.Words.{replay_words}
 use Rattle.jd_answer.specs.Reports.{proof_limit_text, file_limit_text, files_limit_text}
 use Rattle.jd_answer.specs.Answers.{proof_limit, IsProofRead, AreRead, AreTold, HaveBytes, HaveLongFile, long, behind, IsAnswer, many_files, long_proof, long_file, IsTold}
-use Rattle.jd_answer.specs.ReadFaults.{HasRisen, IsReadFault}
+use Rattle.jd_answer.specs.ReadFaults.{AreSteady, HasRisen, IsReadFault, NamesSteady}
 use Rattle.jd_answer.specs.declared.status.Status.TheVariants.{Limit}
 
 -- ---- the same contents
@@ -74,3 +74,13 @@ a_file_failed words proof names before later after are same risen = record {
   named = record { proof = proof; names = names; words_ = are; among = Contains-append_right (proof ∷ []) names risen.name risen.among };
   rose = subst (λ k. Rose k (after risen.name)) (same risen.name) risen.rose;
 }
+
+-- ---- where reading does not fail
+
+pub proof_is_steady : (words : List (List ℕ)) (proof : List ℕ) (names : List (List ℕ)) (steady : List ℕ → Type 0) → replay_words words ≡ Some (proof, names) → NamesSteady words steady → steady proof
+proof_is_steady words proof names steady are all =
+    all proof (record { proof = proof; names = names; words_ = are; among = Contains-append_left (proof ∷ []) names proof (Contains-push [] proof) })
+
+pub files_are_steady : (words : List (List ℕ)) (proof : List ℕ) (names : List (List ℕ)) (steady still : List ℕ → Type 0) → replay_words words ≡ Some (proof, names) → NamesSteady words steady → StaySteady steady still → AreSteady names still
+files_are_steady words proof names steady still are all stay name among =
+    stay name (all name (record { proof = proof; names = names; words_ = are; among = Contains-append_right (proof ∷ []) names name among }))

@@ -28,3 +28,11 @@ pub record HasMoreFaults (words : List (List ℕ)) (before after : List ℕ → 
   pub name : List ℕ
   pub named : IsNamed words name
   pub more : before name < after name
+
+-- reading does not fail at any of these files
+abbrev pub AreSteady : List (List ℕ) → (List ℕ → Type 0) → Type 0
+AreSteady names steady = (name : List ℕ) → Contains names name → steady name
+
+-- reading does not fail at any file that the words name
+abbrev pub NamesSteady : List (List ℕ) → (List ℕ → Type 0) → Type 0
+NamesSteady words steady = (name : List ℕ) → IsNamed words name → steady name

@@ -1,7 +1,7 @@
 ghost use Rattle.std.specs.Prelude.{◌≡◌, ◌<◌, ◌≤◌, ℕ, List, Option, length, Some, None, IfOk, IfSome, OnOk, IsErrOf, MatchOption, MatchResult, map, option_map};
 ghost use Rattle.std.specs.List.{All};
 ghost use Rattle.std.specs.Option.{ForSome};
-ghost use Rattle.jd_base.specs.Faults.{Rose, SameCounts, SameContents};
+ghost use Rattle.jd_base.specs.Faults.{Rose, SameCounts, SameContents, StaySteady};
 ghost use Rattle.jd_sequent.specs.Trees.{tree_of};
 ghost use Rattle.jd_sequent.specs.Steps.{node_view};
 ghost use Rattle.jd_replay.specs.Verdicts.{IsVerdict};
@@ -15,7 +15,7 @@ ghost use Rattle.jd_answer.specs.Reports.{IsReport, report_limit_text};
 ghost use Rattle.jd_answer.specs.Answers.{AcceptsObligations, leads_of, causes_of, proof_limit, report_limit, AreRead, AreTold, HaveBytes, HaveLongFile, IsAnswer, IsProofAnswer, SameAnswer, IsTold};
 ghost use Rattle.jd_answer.specs.Statuses.{IsJudged, IsWritten};
 ghost use Rattle.jd_answer.specs.FileAnswers.{IsRefusal};
-ghost use Rattle.jd_answer.specs.ReadFaults.{IsReadFault, HasMoreFaults, HasRisen};
+ghost use Rattle.jd_answer.specs.ReadFaults.{AreSteady, IsReadFault, HasMoreFaults, HasRisen, NamesSteady};
 ghost use Rattle.jd_answer.specs.Understanding.{IsNoProgram, IsOneProgram, IsUnderstood};
 ghost use Rattle.jd_answer.specs.declared.status.Status.{Status};
 ghost use Rattle.jd_answer.specs.declared.answer.Stop.TheVariants.{NoMemory as OutOfMemory};
@@ -280,6 +280,9 @@ fn read_within<L: Library>(
     ensures no_fault { OnOk result (SameCounts (L.faults library.old) (L.faults library.new)) }
     ensures no_memory_no_fault { IsErrOf result Stop.NoMemory
         → SameCounts (L.faults library.old) (L.faults library.new) }
+
+    ensures steadily { L.steady library.old name.now → ¬ IsErrOf result Stop.ReadFault }
+    ensures still_steady { StaySteady (L.steady library.old) (L.steady library.new) }
 {
     match read_whole(alloc, library, name, limit) {
         Ok(bytes) => Ok(Some(bytes)),
@@ -306,6 +309,7 @@ fn read_files<L: Library>(
     ensures no_fault { OnOk result (SameCounts (L.faults library.old) (L.faults library.new)) }
     ensures no_memory_no_fault { IsErrOf result Stop.NoMemory
         → SameCounts (L.faults library.old) (L.faults library.new) }
+    ensures steadily { AreSteady (word_texts names.now) (L.steady library.old) → ¬ IsErrOf result Stop.ReadFault }
 {
     let mut files = Vec::new(alloc);
     for name in names {
@@ -341,6 +345,7 @@ pub fn answer_to<R: RuleSet, L: Library>(
         → IsReadFault (word_texts words.now) (L.faults library.old) (L.faults library.new) }
     ensures always_read_fault { HasMoreFaults (word_texts words.now) (L.faults library.old) (L.faults library.new)
         → IsErrOf result Stop.ReadFault }
+    ensures steadily { NamesSteady (word_texts words.now) (L.steady library.old) → ¬ IsErrOf result Stop.ReadFault }
 {
     let Some(named) = replay_files(words) else {
         return Ok(Answer {

@@ -1,3 +1,4 @@
+pub mod Completeness
 pub mod FirstReplay
 pub mod KeptPrograms
 pub mod Outcomes

@@ -7,12 +7,16 @@ ghost use Rattle.jd_base.specs.Faults.{Rose};
 ghost use Rattle.jd_answer.specs.Words.{word_texts, replay_words};
 ghost use Rattle.jd_answer.specs.Answers.{IsTold};
 ghost use Rattle.jd_answer.specs.Statuses.{IsWritten};
-ghost use Rattle.jd_answer.specs.ReadFaults.{IsReadFault, HasMoreFaults};
+ghost use Rattle.jd_answer.specs.ReadFaults.{IsReadFault, HasMoreFaults, NamesSteady};
 ghost use Rattle.jdl.specs.FirstReplay.{first_leads, first_causes};
 ghost use Rattle.jdl.specs.KeptPrograms.{EachCaseIsKept};
 ghost use Rattle.jdl.specs.Outcomes.{IsAnswered, IsCutShort, IsAccepted, IsNotAccepted, IsSourceRefused, IsScriptRefused, IsPastLimit};
 ghost use Rattle.jdl.specs.Statuses.{MayEndUsage};
+ghost use Rattle.jdl.specs.Completeness.{IsInOrder, NoCountRose, MayEndInOrder, FitsEachAnswer};
 
+mod in_memory;
+
+pub use in_memory::run_in_memory;
 pub use jd_answer::Status;
 use jd_answer::{Answer, Stop, answer_to};
 use jd_base::write_all;
@@ -30,6 +34,7 @@ fn write_answer<S: Sink>(sink: &mut S, answer: &Answer) -> Status
     ensures fault { result ≡ Status.WriteFault → answer.now.status ≢ Status.WriteFault
         → Rose (S.faults sink.old) (S.faults sink.new) }
     ensures always_fault { S.faults sink.old < S.faults sink.new → result ≡ Status.WriteFault }
+    ensures steadily { S.steady sink.old (length answer.now.text.items) → result ≡ answer.now.status }
 {
     match write_all(sink, &answer.text) {
         Ok(()) => answer.status,
@@ -70,6 +75,18 @@ pub fn run<L: Library, S: Sink>(
         → result ≡ Status.ReadFault }
     ensures write_fault { result ≡ Status.WriteFault → Rose (S.faults sink.old) (S.faults sink.new) }
     ensures always_write_fault { S.faults sink.old < S.faults sink.new → result ≡ Status.WriteFault }
+
+    // Where the library knows that reading does not fail, or the sink that as many bytes are written as each answer has, there is no fault.
+    ensures never_read_fault { NamesSteady (word_texts words.now) (L.steady library.old) → result ≢ Status.ReadFault }
+    ensures never_write_fault { IsTold (word_texts words.now) (L.contents library.old)
+        → FitsEachAnswer first_leads first_causes (word_texts words.now) (L.contents library.old) (S.steady sink.old)
+        → result ≢ Status.WriteFault }
+
+    // A command of which nothing is refused and no limit is passed ends with its report, but for faults and want of memory.
+    ensures complete { IsTold (word_texts words.now) (L.contents library.old)
+        → IsInOrder first_leads first_causes (word_texts words.now) (L.contents library.old)
+        → NoCountRose (word_texts words.now) (L.faults library.old) (L.faults library.new) (S.faults sink.old) (S.faults sink.new)
+        → MayEndInOrder result }
 
     // What each status tells of the files.
     ensures accepted { result ≡ Status.Done → IsTold (word_texts words.now) (L.contents library.old)

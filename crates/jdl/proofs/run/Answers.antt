@@ -1,7 +1,9 @@
+use Rattle.std.proofs.Common.{◌∙◌, sym, inr}
 use Rattle.jd_update_truth.specs.SortedFormulas.{SortedSequent}
 use Rattle.jd_answer.specs.Words.{word_texts}
-use Rattle.jd_answer.specs.declared.status.Status.TheVariants.{Done, NotAccepted, RefusedSource, RefusedScript, Limit}
+use Rattle.jd_answer.specs.declared.status.Status.TheVariants.{Done, NotAccepted, Usage, RefusedSource, RefusedScript, Limit}
 use Rattle.jdl.specs.FirstReplay.{first_leads, first_causes}
+use Rattle.jdl.proofs.Completeness.{ends_in_order, no_read_fault, written_is_no_fault}
 use Rattle.jdl.proofs.FirstReplay.{first_one_way, first_has_no_cause, first_derivations_are_sound}
 use Rattle.jdl.proofs.KeptPrograms.{accepted_is_kept}
 use Rattle.jdl.proofs.Outcomes.{answered_so, answer_done, answer_not_accepted, answer_refused_source, answer_refused_script, answer_limit}
@@ -35,3 +37,20 @@ returns-in-Ok-clause-refused_script g c = λ is told.
 pub returns-in-Ok-clause-limit : goal.returns-in-Ok-clause-limit
 returns-in-Ok-clause-limit g c = λ is told.
     answer_limit first_leads first_causes (word_texts c.args.words.now) (g.L.Library.contents c.args.library.now) _ _ (c.in-Ok.ensures.answer told) (answered_so _ _ Limit c.write_answer.ensures.either (λ e. cc) is)
+
+pub returns-in-Ok-clause-complete : goal.returns-in-Ok-clause-complete
+returns-in-Ok-clause-complete g c = λ told order calm.
+    ends_in_order first_leads first_causes (word_texts c.args.words.now) (g.L.Library.contents c.args.library.now) _ _ _ _ _ order calm
+    (λ is. c.in-Ok.ensures.usage (answered_so _ _ Usage c.write_answer.ensures.either (λ e. cc) is))
+    (λ is. absurd (no_read_fault _ _ c.in-Ok.ensures.written c.write_answer.ensures.either is))
+    (λ is. c.write_answer.ensures.fault is (λ same. written_is_no_fault _ c.in-Ok.ensures.written (inr same)))
+    (λ is. returns-in-Ok-clause-refused_source g c is told)
+    (λ is. returns-in-Ok-clause-refused_script g c is told)
+    (λ is. returns-in-Ok-clause-limit g c is told)
+
+pub returns-in-Ok-clause-never_read_fault : goal.returns-in-Ok-clause-never_read_fault
+returns-in-Ok-clause-never_read_fault g c = λ _ is. no_read_fault _ _ c.in-Ok.ensures.written c.write_answer.ensures.either is
+
+pub returns-in-Ok-clause-never_write_fault : goal.returns-in-Ok-clause-never_write_fault
+returns-in-Ok-clause-never_write_fault g c = λ told fits is.
+    written_is_no_fault _ c.in-Ok.ensures.written (inr (sym (c.write_answer.ensures.steadily (fits _ _ (c.in-Ok.ensures.answer told))) ∙ is))

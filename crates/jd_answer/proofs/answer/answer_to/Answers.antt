@@ -4,7 +4,7 @@ use Rattle.std.proofs.lemmas.List.{length-map}
 use Rattle.jd_answer.specs.Answers.{leads_of, causes_of, usage}
 use Rattle.jd_answer.specs.Words.{word_texts}
 use Rattle.jd_answer.specs.declared.answer.Stop.TheVariants.{ReadFault}
-use Rattle.jd_answer.proofs.Reading.{a_file_failed, are_read, files_past, many_named, proof_past}
+use Rattle.jd_answer.proofs.Reading.{a_file_failed, are_read, files_are_steady, files_past, many_named, proof_is_steady, proof_past}
 use Rattle.jd_answer.proofs.answer.answer_to.Goals as goal
 
 pub returns-in_default-clause-answer : goal.returns-in_default-clause-answer
@@ -40,3 +40,13 @@ pub returns-in_err-files-clause-read_fault : goal.returns-in_err-files-clause-re
 returns-in_err-files-clause-read_fault g c = λ is.
     let failed : IsErrOf c.read_files.result ReadFault = search (rules, is) in
     a_file_failed (word_texts c.args.words.now) c.in-Some.named.proof.now (word_texts c.in-Some.named.files.now) _ _ _ c.in-Some.ensures c.in_ok-proof.ensures.no_fault (c.read_files.ensures.fault failed)
+
+pub returns-in_err-proof-clause-steadily : goal.returns-in_err-proof-clause-steadily
+returns-in_err-proof-clause-steadily g c = λ all is.
+    let failed : IsErrOf c.read_within.result ReadFault = search (rules, is) in
+    c.read_within.ensures.steadily (proof_is_steady (word_texts c.args.words.now) c.in-Some.named.proof.now (word_texts c.in-Some.named.files.now) _ c.in-Some.ensures all) failed
+
+pub returns-in_err-files-clause-steadily : goal.returns-in_err-files-clause-steadily
+returns-in_err-files-clause-steadily g c = λ all is.
+    let failed : IsErrOf c.read_files.result ReadFault = search (rules, is) in
+    c.read_files.ensures.steadily (files_are_steady (word_texts c.args.words.now) c.in-Some.named.proof.now (word_texts c.in-Some.named.files.now) _ _ c.in-Some.ensures all c.in_ok-proof.ensures.still_steady) failed

@@ -1,6 +1,6 @@
 use Rattle.std.proofs.Common.{◌≡◌, ◌≤◌, length, map}
 use Rattle.std.specs.List.{All}
-use Rattle.jd_base.specs.Faults.{SameContents, SameCounts}
+use Rattle.jd_base.specs.Faults.{SameContents, SameCounts, StaySteady}
 use Rattle.jd_files.specs.Files.{file_limit}
 use Rattle.jd_answer.specs.Words.{word_texts}
 use Rattle.jd_answer.proofs.Files.{AreReadTo}
@@ -13,4 +13,5 @@ invariant-loop-name g l = record {
   within : All (λ f. length f.items ≤ file_limit) l.files.items;
   contents : SameContents (g.L.Library.contents l.fn.library) (g.L.Library.contents l.library);
   counts : SameCounts (g.L.Library.faults l.fn.library) (g.L.Library.faults l.library);
+  steady : StaySteady (g.L.Library.steady l.fn.library) (g.L.Library.steady l.library);
 }
