@@ -5,7 +5,7 @@ ghost use Rattle.std.specs.List.{list_any};
 ghost use Rattle.std.specs.Str.{bytes_eq};
 ghost use Rattle.jd_bracketed.specs.Tokens.{tokens_of};
 ghost use Rattle.jd_scripts.specs.Scripts.{AreDistinct, names_of};
-ghost use Rattle.jd_script.specs.ProofViews.{proof_view};
+ghost use Rattle.jd_scripts.specs.ProofViews.{proof_view};
 ghost use Rattle.jd_proofs.specs.Outcomes.{IsOutcome, Trees, tree_in};
 ghost use Rattle.jd_proofs.specs.Answers.{IsUnread, trees_view};
 ghost use Rattle.jd_proofs.specs.Given.{IsRefusedFor, name_list, names_view, outcome_with, with_tree};

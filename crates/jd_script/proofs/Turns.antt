@@ -8,7 +8,7 @@ use Rattle.jd_scripts.specs.Machine.{State, FileNext, Fault, step}
 use Rattle.jd_scripts.specs.Results.{refused, ended, answer_by, answer}
 use Rattle.jd_scripts.proofs.Once.{is_answer}
 use Rattle.jd_script.specs.Answers.{Answers, AnswersAs, RefusesAs, IsRefused}
-use Rattle.jd_script.specs.declared.proof.Proof.{Proof}
+use Rattle.jd_scripts.specs.declared.proof.Proof.{Proof}
 use Rattle.jd_script.specs.declared.refusal.ScriptRefusal.{ScriptRefusal}
 use Rattle.jd_script.specs.declared.refusal.ScriptRefusal.TheVariants as refusals
 

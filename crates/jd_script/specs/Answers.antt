@@ -4,8 +4,8 @@ use Rattle.jd_bracketed.specs.Tokens.{Placed}
 use Rattle.jd_scripts.specs.Scripts.{Limits}
 use Rattle.jd_scripts.specs.Answers as plain
 use Rattle.jd_scripts.specs.Answers.{Answer, IsAnswer}
-use Rattle.jd_script.specs.ProofViews.{proof_view}
-use Rattle.jd_script.specs.declared.proof.Proof.{Proof}
+use Rattle.jd_scripts.specs.ProofViews.{proof_view}
+use Rattle.jd_scripts.specs.declared.proof.Proof.{Proof}
 use Rattle.jd_script.specs.declared.refusal.ScriptRefusal.{ScriptRefusal}
 use Rattle.jd_script.specs.declared.refusal.ScriptRefusal.TheVariants as refusals
 use Rattle.std.specs.Global.{Vec}

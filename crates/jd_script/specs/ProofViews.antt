@@ -1,20 +1,12 @@
--- What the code's proofs and their names stand for.
+-- What a list of proofs and their names stand for.
 use Rattle.std.specs.Prelude.{◌≡◌, ℕ, List, map}
 use Rattle.std.specs.List.{list_any}
 use Rattle.std.specs.Str.{bytes_eq}
 use Rattle.std.specs.Global.{Vec}
 use Rattle.indexmap.specs.IndexSet.{IndexSet}
-use Rattle.jd_sequent.specs.Trees.{ProofTree, tree_of}
-use Rattle.jd_sequent.specs.Steps.{node_view}
 use Rattle.jd_scripts.specs.Scripts.{PlainProof, names_of}
-use Rattle.jd_script.specs.declared.proof.Proof.{Proof}
+use Rattle.jd_scripts.specs.ProofViews.{proof_view}
 use Rattle.jd_script.specs.declared.proofs.Proofs.{Proofs}
-
-abbrev pub proof_of : List ℕ → ProofTree → PlainProof
-proof_of name tree = record { name = name; tree = tree }
-
-abbrev pub proof_view : Proof → PlainProof
-proof_view p = proof_of p.name.items (tree_of (map node_view p.tree.nodes.items))
 
 -- the same names, in any order
 abbrev pub AreNames : List (List ℕ) → List (List ℕ) → Type 0

@@ -6,11 +6,12 @@ ghost use Rattle.std.specs.Str.{bytes_eq};
 ghost use Rattle.jd_sequent.specs.Trees.{tree_of};
 ghost use Rattle.jd_sequent.specs.Steps.{node_view};
 ghost use Rattle.jd_scripts.specs.Scripts.{names_of};
-ghost use Rattle.jd_script.specs.ProofViews.{proof_of, proofs_view, AreHashed};
+ghost use Rattle.jd_scripts.specs.ProofViews.{proof_of};
+ghost use Rattle.jd_script.specs.ProofViews.{proofs_view, AreHashed};
 
-use crate::proof::Proof;
 use indexmap::IndexSet;
 use jd_base::{NoMemory, copy_bytes};
+use jd_scripts::Proof;
 use jd_sequent::ScriptTree;
 use std::alloc::Global;
 

@@ -11,13 +11,13 @@ ghost use Rattle.jd_script.specs.declared.stop.Stop.TheVariants as stops;
 ghost use Rattle.jd_script.specs.Answers.{Answers, AnswersAs, RefusesAs};
 
 use crate::nodes::OpenProof;
-use crate::proof::Proof;
 use crate::proofs::Proofs;
 use crate::refusal::ScriptRefusal;
 use crate::stage::{Stage, Turn, stage_step};
 use crate::stop::{Limits, Stop};
 use jd_base::copy_bytes;
 use jd_bracketed::{Kind, Token, Tokens};
+use jd_scripts::Proof;
 use std::alloc::Global;
 
 // How many steps a proof may have.

@@ -7,8 +7,8 @@ use Rattle.jd_written.specs.Written.{Text, empty_text, write, write_all}
 use Rattle.jd_written.proofs.Writing.{write_all-append, written_all}
 use Rattle.jd_scripts.specs.Places.{decimal}
 use Rattle.jd_scripts.specs.Scripts.{spell_file, spell_proof, spell_proofs, spell_tree}
-use Rattle.jd_script.specs.ProofViews.{proof_of, proof_view}
-use Rattle.jd_script.specs.declared.proof.Proof.{Proof}
+use Rattle.jd_scripts.specs.ProofViews.{proof_of, proof_view}
+use Rattle.jd_scripts.specs.declared.proof.Proof.{Proof}
 use Rattle.jd_script_print.specs.Laws.{file_of, script_text}
 use Rattle.jd_script_print.specs.Views.{named_nodes}
 use Rattle.jd_script_print.specs.Writing.{OpenSteps, put_file, put_nodes, put_proof, put_proofs}

@@ -1,14 +1,14 @@
 //! The text of files of proof scripts.
 
 ghost use Rattle.std.specs.Prelude.{◌≡◌, OnOk, IfOk, map};
-ghost use Rattle.jd_script.specs.ProofViews.{proof_view};
+ghost use Rattle.jd_scripts.specs.ProofViews.{proof_view};
 ghost use Rattle.jd_script_print.specs.Laws.{script_text};
 ghost use Rattle.jd_script_print.specs.Views.{named_nodes};
 ghost use Rattle.jd_script_print.specs.Writing as writing;
 
 use crate::trees::write_nodes;
 use jd_base::NoMemory;
-use jd_script::Proof;
+use jd_scripts::Proof;
 use jd_written::Written;
 use std::alloc::Global;
 

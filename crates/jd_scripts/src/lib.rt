@@ -1,9 +1,13 @@
 //! The form of proof scripts (trees and the tokens that spell them), how it is read token by token, and what a text that is no
-//! such file is refused for. Laws alone.
+//! such file is refused for. The type of proofs, and laws.
 #![tactic(auto)]
 
 ghost use Rattle.jd_scripts.specs.Answers.{OneAnswer};
 ghost use Rattle.jd_scripts.specs.Laws.{EachFileIsRead, WhatIsReadIsAFile};
+
+mod proof;
+
+pub use proof::Proof;
 
 /// The tokens of a file within the limits are read as that file.
 pub fn files_are_read()

@@ -10,7 +10,9 @@ mod rule;
 mod script;
 
 pub use bad::Bad;
-pub use jd_model::{BodyForm, CaseForm, Contracts, InvForm, Node, Place, Sequent, Side};
+pub use jd_model::{
+    BodyForm, CaseForm, Contracts, InvForm, Node, Place, Sequent, Side, at, replace_at,
+};
 pub use laws::derivations_are_sound;
 pub use limits::is_within_limits;
 pub use names::OfTask;

@@ -14,6 +14,9 @@ mod sorts;
 mod texts;
 mod variables;
 
+pub use jd_bracketed::{SxRefusal, read_sx};
+pub use jd_print::print_formula;
+pub use jd_sequent_print::print_sequent;
 pub use jd_tread::TermRefusal;
 pub use names::Names;
 pub use parse::{parse_formula, parse_term};

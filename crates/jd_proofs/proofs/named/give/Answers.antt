@@ -1,6 +1,6 @@
 use Rattle.std.proofs.Common.{Some, option_map, is_some, sym, ap, ◌∙◌}
 use Rattle.std.proofs.lemmas.List.{length-map, map-set}
-use Rattle.jd_script.specs.ProofViews.{proof_view}
+use Rattle.jd_scripts.specs.ProofViews.{proof_view}
 use Rattle.jd_proofs.specs.Answers.{tree_view, trees_view}
 use Rattle.jd_proofs.proofs.Giving.{put_found, is_known}
 use Rattle.jd_proofs.proofs.named.give.Goals as goal

@@ -1,5 +1,5 @@
 use Rattle.std.proofs.Common.{sym, ap, ◌∙◌}
-use Rattle.jd_script.specs.ProofViews.{proof_view}
+use Rattle.jd_scripts.specs.ProofViews.{proof_view}
 use Rattle.jd_proofs.specs.Answers.{trees_view}
 use Rattle.jd_proofs.specs.Outcomes.{UnknownObligation}
 use Rattle.jd_proofs.specs.Given.{name_list, names_view}

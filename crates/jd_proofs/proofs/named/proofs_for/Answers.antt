@@ -1,6 +1,6 @@
 use Rattle.jd_bracketed.specs.Tokens.{tokens_of}
 use Rattle.std.proofs.Common.{map}
-use Rattle.jd_script.specs.ProofViews.{proof_view}
+use Rattle.jd_scripts.specs.ProofViews.{proof_view}
 use Rattle.jd_proofs.specs.Given.{names_view}
 use Rattle.jd_proofs.proofs.Answered.{answered}
 use Rattle.jd_proofs.proofs.named.proofs_for.Goals as goal

@@ -3,7 +3,8 @@ use Rattle.std.proofs.lemmas.List.{map-append}
 use Rattle.jd_sequent.specs.Trees.{tree_of}
 use Rattle.jd_sequent.specs.Steps.{node_view}
 use Rattle.jd_scripts.specs.Scripts.{PlainProof, names_of}
-use Rattle.jd_script.specs.ProofViews.{proof_of, proof_view, proofs_view, name_list}
+use Rattle.jd_scripts.specs.ProofViews.{proof_of, proof_view}
+use Rattle.jd_script.specs.ProofViews.{proofs_view, name_list}
 use Rattle.jd_script.proofs.NameSets.{one_more_name, names_more}
 use Rattle.jd_script.proofs.proofs.Proofs.add.Goals as goal
 
