@@ -15,22 +15,22 @@ fn put_at(answer: &mut Answer, refusal: &str, at: u32) {
 
 pub(crate) fn put_fault(answer: &mut Answer, refusal: &LexRefusal) {
     match refusal {
-        LexRefusal::BadByte { at } => put_at(answer, "BadByte ", *at),
-        LexRefusal::OpenComment { at } => put_at(answer, "OpenComment ", *at),
-        LexRefusal::BigLiteral { at } => put_at(answer, "BigLiteral ", *at),
+        LexRefusal::BadByte { at, .. } => put_at(answer, "BadByte ", *at),
+        LexRefusal::OpenComment { at, .. } => put_at(answer, "OpenComment ", *at),
+        LexRefusal::BigLiteral { at, .. } => put_at(answer, "BigLiteral ", *at),
         LexRefusal::NoMemory => answer.lack_memory(),
     }
 }
 
 pub(crate) fn put_misfit(answer: &mut Answer, refusal: &ParseRefusal) {
     match refusal {
-        ParseRefusal::Syntax { at } => put_at(answer, "Syntax ", *at),
-        ParseRefusal::Unsupported { at, what } => {
+        ParseRefusal::Syntax { at, .. } => put_at(answer, "Syntax ", *at),
+        ParseRefusal::Unsupported { at, what, .. } => {
             put_at(answer, "Unsupported ", *at);
             answer.put(" ");
             answer.put(word(what));
         }
-        ParseRefusal::TooDeep { at } => put_at(answer, "TooDeep ", *at),
+        ParseRefusal::TooDeep { at, .. } => put_at(answer, "TooDeep ", *at),
         ParseRefusal::NoMemory => answer.lack_memory(),
     }
 }

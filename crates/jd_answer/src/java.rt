@@ -35,9 +35,9 @@ fn add_fault(alloc: Global, out: &mut Vec<u8>, refusal: &LexRefusal) -> Result<(
         (λ r. out.new.items ≡ out.old.items ++ reason_text r)) }
 {
     match refusal {
-        LexRefusal::BadByte { at } => add_placed(alloc, out, b"BadByte", *at),
-        LexRefusal::OpenComment { at } => add_placed(alloc, out, b"OpenComment", *at),
-        LexRefusal::BigLiteral { at } => add_placed(alloc, out, b"BigLiteral", *at),
+        LexRefusal::BadByte { at, .. } => add_placed(alloc, out, b"BadByte", *at),
+        LexRefusal::OpenComment { at, .. } => add_placed(alloc, out, b"OpenComment", *at),
+        LexRefusal::BigLiteral { at, .. } => add_placed(alloc, out, b"BigLiteral", *at),
         LexRefusal::NoMemory => Err(NoMemory),
     }
 }
@@ -48,9 +48,9 @@ fn add_misfit(alloc: Global, out: &mut Vec<u8>, refusal: &ParseRefusal) -> Resul
         (λ r. out.new.items ≡ out.old.items ++ reason_text r)) }
 {
     match refusal {
-        ParseRefusal::Syntax { at } => add_placed(alloc, out, b"Syntax", *at),
-        ParseRefusal::Unsupported { at, what } => add_unsupported(alloc, out, *at, what),
-        ParseRefusal::TooDeep { at } => add_placed(alloc, out, b"TooDeep", *at),
+        ParseRefusal::Syntax { at, .. } => add_placed(alloc, out, b"Syntax", *at),
+        ParseRefusal::Unsupported { at, what, .. } => add_unsupported(alloc, out, *at, what),
+        ParseRefusal::TooDeep { at, .. } => add_placed(alloc, out, b"TooDeep", *at),
         ParseRefusal::NoMemory => Err(NoMemory),
     }
 }

@@ -158,16 +158,16 @@ spelled_some : (P : List Token → Type 0) (bytes : List ℕ) → SpellSome byte
 spelled_some P bytes s = record { tokens = s.tokens; spelled = s.spelled }
 
 pub reads_refused : (so_far : Reading) (number : ℕ) (bytes : List ℕ) (e : SourceRefusal) (more : More) → is_none (reason_of e) ≡ false → IsRefused bytes e → IsRefusedToo so_far number e more → ReadsMore so_far number bytes more
-reads_refused so_far number bytes (Lexical (lexical.BadByte at)) more some refused too = of_text so_far number bytes (lexical.BadByte at) (BadByte at) more refl refused too
-reads_refused so_far number bytes (Lexical (lexical.OpenComment at)) more some refused too = of_text so_far number bytes (lexical.OpenComment at) (OpenComment at) more refl refused too
-reads_refused so_far number bytes (Lexical (lexical.BigLiteral at)) more some refused too = of_text so_far number bytes (lexical.BigLiteral at) (BigLiteral at) more refl refused too
+reads_refused so_far number bytes (Lexical (lexical.BadByte file at)) more some refused too = of_text so_far number bytes (lexical.BadByte file at) (BadByte at) more refl refused too
+reads_refused so_far number bytes (Lexical (lexical.OpenComment file at)) more some refused too = of_text so_far number bytes (lexical.OpenComment file at) (OpenComment at) more refl refused too
+reads_refused so_far number bytes (Lexical (lexical.BigLiteral file at)) more some refused too = of_text so_far number bytes (lexical.BigLiteral file at) (BigLiteral at) more refl refused too
 reads_refused so_far number bytes (Lexical lexical.NoMemory) more some refused too = absurd (true≢false some)
-reads_refused so_far number bytes (Grammatical (grammatical.Syntax at)) more some refused too =
-    of_tokens so_far number bytes (grammatical.Syntax at) (NoFile at) more refl (spelled_some LackFile bytes refused.0) refused too
-reads_refused so_far number bytes (Grammatical (grammatical.Unsupported at what)) more some refused too =
-    of_tokens so_far number bytes (grammatical.Unsupported at what) (Unsupported at what.items) more refl (spelled_some (λ ts. IsUnsupported ts at what.items) bytes refused) refused too
-reads_refused so_far number bytes (Grammatical (grammatical.TooDeep at)) more some refused too =
-    of_tokens so_far number bytes (grammatical.TooDeep at) (TooDeep at) more refl (spelled_some NestTooDeep bytes refused.0) refused too
+reads_refused so_far number bytes (Grammatical (grammatical.Syntax file at)) more some refused too =
+    of_tokens so_far number bytes (grammatical.Syntax file at) (NoFile at) more refl (spelled_some (λ ts. LackFile ts at) bytes refused.0) refused too
+reads_refused so_far number bytes (Grammatical (grammatical.Unsupported file at what)) more some refused too =
+    of_tokens so_far number bytes (grammatical.Unsupported file at what) (Unsupported at what.items) more refl (spelled_some (λ ts. IsUnsupported ts at what.items) bytes refused) refused too
+reads_refused so_far number bytes (Grammatical (grammatical.TooDeep file at)) more some refused too =
+    of_tokens so_far number bytes (grammatical.TooDeep file at) (TooDeep at) more refl (spelled_some NestTooDeep bytes refused.0) refused too
 reads_refused so_far number bytes (Grammatical grammatical.NoMemory) more some refused too = absurd (true≢false some)
 
 -- ---- the code's files

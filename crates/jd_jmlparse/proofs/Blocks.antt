@@ -23,9 +23,9 @@ further ts P xs ys r = record {
 }
 
 still_refused : (ts : List lexed.Token) (e : ParseRefusal) (xs ys : List PlainSpecBlock) → AreNotFilled ts xs e → AreNotFilled ts (xs ++ ys) e
-still_refused ts (refusals.Syntax at) xs ys r = further ts (λ place us. Refuses place us (refusals.Syntax at)) xs ys r
-still_refused ts (refusals.Unsupported at what) xs ys r = further ts (λ place us. Refuses place us (refusals.Unsupported at what)) xs ys r
-still_refused ts (refusals.TooDeep at) xs ys r = further ts (λ place us. Refuses place us (refusals.TooDeep at)) xs ys r
+still_refused ts (refusals.Syntax file at) xs ys r = further ts (λ place us. Refuses place us (refusals.Syntax file at)) xs ys r
+still_refused ts (refusals.Unsupported file at what) xs ys r = further ts (λ place us. Refuses place us (refusals.Unsupported file at what)) xs ys r
+still_refused ts (refusals.TooDeep file at) xs ys r = further ts (λ place us. Refuses place us (refusals.TooDeep file at)) xs ys r
 still_refused ts refusals.NoMemory xs ys r = r
 
 -- a block behind one that is refused says nothing
@@ -47,9 +47,9 @@ now_refused ts P xs b all p = record {
 }
 
 now_not_filled : (ts : List lexed.Token) (e : ParseRefusal) (xs : List PlainSpecBlock) (b : PlainSpecBlock) → All (HasClauses ts) xs → Refuses b.place (block_tokens ts b) e → AreNotFilled ts (xs ++ b ∷ []) e
-now_not_filled ts (refusals.Syntax at) xs b all p = now_refused ts (λ place us. Refuses place us (refusals.Syntax at)) xs b all p
-now_not_filled ts (refusals.Unsupported at what) xs b all p = absurd p
-now_not_filled ts (refusals.TooDeep at) xs b all p = now_refused ts (λ place us. Refuses place us (refusals.TooDeep at)) xs b all p
+now_not_filled ts (refusals.Syntax file at) xs b all p = now_refused ts (λ place us. Refuses place us (refusals.Syntax file at)) xs b all p
+now_not_filled ts (refusals.Unsupported file at what) xs b all p = absurd p
+now_not_filled ts (refusals.TooDeep file at) xs b all p = now_refused ts (λ place us. Refuses place us (refusals.TooDeep file at)) xs b all p
 now_not_filled ts refusals.NoMemory xs b all p = p
 
 -- a block that is refused behind those that are read
@@ -93,7 +93,7 @@ refused_there : (ts : List lexed.Token) (P : SpecPlace → List lexed.Token → 
 refused_there ts P bs cs same r = refused_behind ts P r.before r.block r.behind cs (ap (map bare_block) (sym r.blocks) ∙ same) r.read r.refused
 
 pub not_filled_there : (ts : List lexed.Token) (e : ParseRefusal) (bs cs : List PlainSpecBlock) → map bare_block bs ≡ map bare_block cs → AreNotFilled ts bs e → AreNotFilled ts cs e
-not_filled_there ts (refusals.Syntax at) bs cs same r = refused_there ts (λ place us. Refuses place us (refusals.Syntax at)) bs cs same r
-not_filled_there ts (refusals.Unsupported at what) bs cs same r = refused_there ts (λ place us. Refuses place us (refusals.Unsupported at what)) bs cs same r
-not_filled_there ts (refusals.TooDeep at) bs cs same r = refused_there ts (λ place us. Refuses place us (refusals.TooDeep at)) bs cs same r
+not_filled_there ts (refusals.Syntax file at) bs cs same r = refused_there ts (λ place us. Refuses place us (refusals.Syntax file at)) bs cs same r
+not_filled_there ts (refusals.Unsupported file at what) bs cs same r = refused_there ts (λ place us. Refuses place us (refusals.Unsupported file at what)) bs cs same r
+not_filled_there ts (refusals.TooDeep file at) bs cs same r = refused_there ts (λ place us. Refuses place us (refusals.TooDeep file at)) bs cs same r
 not_filled_there ts refusals.NoMemory bs cs same r = r

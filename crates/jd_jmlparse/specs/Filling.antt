@@ -12,8 +12,8 @@ use Rattle.jd_jmlparse.specs.declared.fill.refused.Cause.TheVariants as causes
 
 -- the refusal that a cause is
 abbrev pub refusal_of : Cause → ParseRefusal
-refusal_of (causes.Syntax at) = refusals.Syntax at
-refusal_of (causes.TooDeep at) = refusals.TooDeep at
+refusal_of (causes.Syntax at) = refusals.Syntax 0 at
+refusal_of (causes.TooDeep at) = refusals.TooDeep 0 at
 refusal_of causes.NoMemory = refusals.NoMemory
 
 -- all have their clauses, or the first that is refused is refused so

@@ -71,7 +71,7 @@ pub data Shows (place : SpecPlace) (ts : List lexed.Token) : ℕ → Type 0 wher
 
 -- Each refusal holds exactly where its cause does; its place is not behind the tokens. No token is unsupported in JML.
 abbrev pub Refuses : SpecPlace → List lexed.Token → ParseRefusal → Type 0
-Refuses place ts (refusals.Syntax at) = IsNoSpec place ts × (at ≤ end_of ts) × Shows place ts at
-Refuses place ts (refusals.Unsupported at what) = ⊥
-Refuses place ts (refusals.TooDeep at) = IsTooDeep place ts × (at ≤ end_of ts)
+Refuses place ts (refusals.Syntax file at) = (file ≡ 0) × IsNoSpec place ts × (at ≤ end_of ts) × Shows place ts at
+Refuses place ts (refusals.Unsupported file at what) = ⊥
+Refuses place ts (refusals.TooDeep file at) = (file ≡ 0) × IsTooDeep place ts × (at ≤ end_of ts)
 Refuses place ts refusals.NoMemory = Unit {0}

@@ -23,8 +23,8 @@ fn refusal_for(cause: Cause) -> ParseRefusal
     ensures { result ≡ refusal_of cause }
 {
     match cause {
-        Cause::Syntax(at) => ParseRefusal::Syntax { at },
-        Cause::TooDeep(at) => ParseRefusal::TooDeep { at },
+        Cause::Syntax(at) => ParseRefusal::Syntax { file: 0, at },
+        Cause::TooDeep(at) => ParseRefusal::TooDeep { file: 0, at },
         Cause::NoMemory => ParseRefusal::NoMemory,
     }
 }

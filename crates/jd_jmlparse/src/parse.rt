@@ -89,11 +89,11 @@ fn judged(
     };
     if let Some(at) = form.fault {
         let at = at.min(end_of(tokens));
-        return Err(ParseRefusal::Syntax { at });
+        return Err(ParseRefusal::Syntax { file: 0, at });
     }
     if let Some(at) = form.high {
         let at = at.min(end_of(tokens));
-        return Err(ParseRefusal::TooDeep { at });
+        return Err(ParseRefusal::TooDeep { file: 0, at });
     }
     match clauses_of(alloc, order, lexemes) {
         Ok(clauses) => Ok(clauses),
@@ -118,7 +118,7 @@ pub fn parse_spec(
         Ok(order) => judged(alloc, place, tokens, &lexemes, &order),
         Err(Refusal::Syntax { at }) => {
             let at = place_of_token(tokens, at);
-            Err(ParseRefusal::Syntax { at })
+            Err(ParseRefusal::Syntax { file: 0, at })
         }
         Err(Refusal::NoMemory) => Err(ParseRefusal::NoMemory),
     }

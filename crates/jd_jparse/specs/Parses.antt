@@ -101,7 +101,7 @@ pub data Shows (ts : List lexed.Token) : ℕ → Type 0 where
 -- each refusal holds exactly where its cause does; the place where no file goes on, and that of what is too high, are not
 -- behind the tokens
 abbrev pub Refuses : List lexed.Token → ParseRefusal → Type 0
-Refuses ts (refusals.Syntax at) = IsNoFile ts × (at ≤ end_of ts) × Shows ts at
-Refuses ts (refusals.Unsupported at what) = IsUnsupported ts at what.items
-Refuses ts (refusals.TooDeep at) = IsTooDeep ts × (at ≤ end_of ts)
+Refuses ts (refusals.Syntax file at) = (file ≡ 0) × IsNoFile ts × (at ≤ end_of ts) × Shows ts at
+Refuses ts (refusals.Unsupported file at what) = (file ≡ 0) × IsUnsupported ts at what.items
+Refuses ts (refusals.TooDeep file at) = (file ≡ 0) × IsTooDeep ts × (at ≤ end_of ts)
 Refuses ts refusals.NoMemory = Unit {0}

@@ -43,6 +43,7 @@ fn unsupported(alloc: Global, tokens: &[Token], number: usize) -> ParseRefusal
     let token = &tokens[number];
     match text_of(alloc, token) {
         Ok(what) => ParseRefusal::Unsupported {
+            file: 0,
             at: token.from,
             what,
         },
@@ -103,11 +104,11 @@ fn judged(
     };
     if let Some(at) = attributes.fault() {
         let at = at.min(end_of(tokens));
-        return Err(ParseRefusal::Syntax { at });
+        return Err(ParseRefusal::Syntax { file: 0, at });
     }
     if let Some(at) = attributes.form.high {
         let at = at.min(end_of(tokens));
-        return Err(ParseRefusal::TooDeep { at });
+        return Err(ParseRefusal::TooDeep { file: 0, at });
     }
     match tree_of(alloc, order, lexemes) {
         Ok(unit) => Ok(unit),
@@ -129,7 +130,7 @@ fn parse_supported(alloc: Global, tokens: &[Token]) -> Result<Unit, ParseRefusal
         Ok(order) => judged(alloc, tokens, &lexemes, &order),
         Err(Refusal::Syntax { at }) => {
             let at = place_of_token(tokens, &lexemes, at);
-            Err(ParseRefusal::Syntax { at })
+            Err(ParseRefusal::Syntax { file: 0, at })
         }
         Err(Refusal::NoMemory) => Err(ParseRefusal::NoMemory),
     }

@@ -55,14 +55,14 @@ module _ (bytes : List ℕ) (at : ℕ) (esc : IsEscape bytes at) (none : NoneBef
   high n t = grind (arith, nat_tests, t)
 
   choose : (n : ℕ) (mine : LexRefusal) (f : Fault) → place f ≡ n → (IsFirstFault bytes f → Refuses (IsFirstFault bytes) mine) → Stops IsJavaPart IsJavaFault 0 bytes f
-      → (t : Bool) → nat_le n at ≡ t → Refuses (IsFirstFault bytes) (cond t mine (refusals.BadByte at))
+      → (t : Bool) → nat_le n at ≡ t → Refuses (IsFirstFault bytes) (cond t mine (refusals.BadByte 0 at))
   choose n mine f is same s true t = same (stop_first bytes f s (λ k e. subst (λ m. m ≤ k) (sym is) (low n k t e)))
-  choose n mine f is same s false t = before_stop bytes f at s (subst (λ m. at ≤ m) (sym is) (high n t)) esc none
+  choose n mine f is same s false t = (refl, before_stop bytes f at s (subst (λ m. at ≤ m) (sym is) (high n t)) esc none)
 
   pub earlier_first : (e : LexRefusal) → Refuses (Stops IsJavaPart IsJavaFault 0 bytes) e → Refuses (IsFirstFault bytes) (earlier_of e at)
-  earlier_first (refusals.BadByte n) s = choose n (refusals.BadByte n) (BadByte n) refl (λ h. h) s (nat_le n at) refl
-  earlier_first (refusals.OpenComment n) s = choose n (refusals.OpenComment n) (OpenComment n) refl (λ h. h) s (nat_le n at) refl
-  earlier_first (refusals.BigLiteral n) s = choose n (refusals.BigLiteral n) (BigLiteral n) refl (λ h. h) s (nat_le n at) refl
+  earlier_first (refusals.BadByte file n) s = choose n (refusals.BadByte file n) (BadByte n) refl (λ h. (s.0, h)) s.1 (nat_le n at) refl
+  earlier_first (refusals.OpenComment file n) s = choose n (refusals.OpenComment file n) (OpenComment n) refl (λ h. (s.0, h)) s.1 (nat_le n at) refl
+  earlier_first (refusals.BigLiteral file n) s = choose n (refusals.BigLiteral file n) (BigLiteral n) refl (λ h. (s.0, h)) s.1 (nat_le n at) refl
   earlier_first refusals.NoMemory s = tt
 
 pub spelled_or_fault : (bytes : List ℕ) (xs : List Token) (f : Fault) → Spells bytes xs → HasFault bytes f → ⊥

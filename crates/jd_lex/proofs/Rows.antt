@@ -65,9 +65,9 @@ module _ (R : Parts) where
 
   pub front_stop : (F : Faults) (from : ℕ) (bytes : List ℕ) (old new : List Token) (at : ℕ) (rest : List ℕ) (e : LexRefusal) → Front from bytes old new at rest
       → Refuses (F at rest) e → Refuses (Stops R F from bytes) e
-  front_stop F from bytes old new at rest (refusals.BadByte n) f h = record { tokens = f.tokens; at = at; rest = rest; leads = f.leads; here = h }
-  front_stop F from bytes old new at rest (refusals.OpenComment n) f h = record { tokens = f.tokens; at = at; rest = rest; leads = f.leads; here = h }
-  front_stop F from bytes old new at rest (refusals.BigLiteral n) f h = record { tokens = f.tokens; at = at; rest = rest; leads = f.leads; here = h }
+  front_stop F from bytes old new at rest (refusals.BadByte file n) f h = (h.0, record { tokens = f.tokens; at = at; rest = rest; leads = f.leads; here = h.1 })
+  front_stop F from bytes old new at rest (refusals.OpenComment file n) f h = (h.0, record { tokens = f.tokens; at = at; rest = rest; leads = f.leads; here = h.1 })
+  front_stop F from bytes old new at rest (refusals.BigLiteral file n) f h = (h.0, record { tokens = f.tokens; at = at; rest = rest; leads = f.leads; here = h.1 })
   front_stop F from bytes old new at rest refusals.NoMemory f h = tt
 
 -- ---- one row

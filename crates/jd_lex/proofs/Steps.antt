@@ -93,9 +93,9 @@ begins_number jml bytes e =
 -- ---- refusals
 
 pub refuses_more : (P Q : Fault → Type 0) → ((f : Fault) → P f → Q f) → (e : LexRefusal) → Refuses P e → Refuses Q e
-refuses_more P Q h (refusals.BadByte n) k = h _ k
-refuses_more P Q h (refusals.OpenComment n) k = h _ k
-refuses_more P Q h (refusals.BigLiteral n) k = h _ k
+refuses_more P Q h (refusals.BadByte file n) k = (k.0, h _ k.1)
+refuses_more P Q h (refusals.OpenComment file n) k = (k.0, h _ k.1)
+refuses_more P Q h (refusals.BigLiteral file n) k = (k.0, h _ k.1)
 refuses_more P Q h refusals.NoMemory k = tt
 
 -- ---- a step by what the text begins with

@@ -23,9 +23,9 @@ tokens_view ts = map token_view ts
 
 -- what a refusal says; want of memory says nothing
 abbrev pub Refuses : (Fault → Type 0) → LexRefusal → Type 0
-Refuses P (refusals.BadByte at) = P (plain.BadByte at)
-Refuses P (refusals.OpenComment at) = P (plain.OpenComment at)
-Refuses P (refusals.BigLiteral at) = P (plain.BigLiteral at)
+Refuses P (refusals.BadByte file at) = (file ≡ 0) × P (plain.BadByte at)
+Refuses P (refusals.OpenComment file at) = (file ≡ 0) × P (plain.OpenComment at)
+Refuses P (refusals.BigLiteral file at) = (file ≡ 0) × P (plain.BigLiteral at)
 Refuses P refusals.NoMemory = Unit {0}
 
 -- a part of n bytes stands at the head of the bytes, and its tokens were added
@@ -67,9 +67,9 @@ Lexes bytes (Err e) = Refuses (Stops IsJavaPart IsJavaFault 0 bytes) e
 
 -- the refusal, or that of an escape that stands before
 abbrev pub earlier_of : LexRefusal → ℕ → LexRefusal
-earlier_of (refusals.BadByte n) at = cond (nat_le n at) (refusals.BadByte n) (refusals.BadByte at)
-earlier_of (refusals.OpenComment n) at = cond (nat_le n at) (refusals.OpenComment n) (refusals.BadByte at)
-earlier_of (refusals.BigLiteral n) at = cond (nat_le n at) (refusals.BigLiteral n) (refusals.BadByte at)
+earlier_of (refusals.BadByte file n) at = cond (nat_le n at) (refusals.BadByte file n) (refusals.BadByte 0 at)
+earlier_of (refusals.OpenComment file n) at = cond (nat_le n at) (refusals.OpenComment file n) (refusals.BadByte 0 at)
+earlier_of (refusals.BigLiteral file n) at = cond (nat_le n at) (refusals.BigLiteral file n) (refusals.BadByte 0 at)
 earlier_of refusals.NoMemory at = refusals.NoMemory
 
 abbrev pub Answers : List ℕ → Result (Vec Token) LexRefusal → Type 0

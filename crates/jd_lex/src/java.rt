@@ -71,7 +71,10 @@ fn block_comment(
     ensures { StepGives (JavaPart BlockComment) (JavaFault BlockComment at bytes.now) at bytes.now out.old.items out.new.items result }
 {
     match block_len(bytes) {
-        None => Err(LexRefusal::OpenComment { at: at as u32 }),
+        None => Err(LexRefusal::OpenComment {
+            file: 0,
+            at: at as u32,
+        }),
         Some(n) => {
             let (_opening, behind) = bytes.split_at(2);
             let (body, _after) = behind.split_at(n);
@@ -149,15 +152,18 @@ fn earlier(refusal: LexRefusal, escape: usize) -> LexRefusal
     ensures { result ≡ earlier_of refusal escape }
 {
     let at = match refusal {
-        LexRefusal::BadByte { at } => at,
-        LexRefusal::OpenComment { at } => at,
-        LexRefusal::BigLiteral { at } => at,
+        LexRefusal::BadByte { at, .. } => at,
+        LexRefusal::OpenComment { at, .. } => at,
+        LexRefusal::BigLiteral { at, .. } => at,
         LexRefusal::NoMemory => return LexRefusal::NoMemory,
     };
     if at as usize <= escape {
         refusal
     } else {
-        LexRefusal::BadByte { at: escape as u32 }
+        LexRefusal::BadByte {
+            file: 0,
+            at: escape as u32,
+        }
     }
 }
 
@@ -170,7 +176,10 @@ pub fn tokens(alloc: Global, bytes: &[u8]) -> Result<Vec<Token>, LexRefusal>
     match java_tokens(alloc, bytes) {
         Ok(found) => match first_escape(bytes) {
             None => Ok(found),
-            Some(at) => Err(LexRefusal::BadByte { at: at as u32 }),
+            Some(at) => Err(LexRefusal::BadByte {
+                file: 0,
+                at: at as u32,
+            }),
         },
         Err(e) => match first_escape(bytes) {
             None => Err(e),

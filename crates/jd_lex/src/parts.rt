@@ -77,7 +77,10 @@ pub fn number_part(
     let n = numeral_len(bytes);
     let (text, _behind) = bytes.split_at(n);
     match value_of(text, limit_of(jml)) {
-        None => Err(LexRefusal::BigLiteral { at: at as u32 }),
+        None => Err(LexRefusal::BigLiteral {
+            file: 0,
+            at: at as u32,
+        }),
         Some(value) => {
             push(out, TokenKind::Number(value as i128), jml, at, n)?;
             Ok(n)
@@ -99,7 +102,10 @@ pub fn sign_part(
 {
     let n = sign_len(jml, bytes);
     if n == 0 {
-        return Err(LexRefusal::BadByte { at: at as u32 });
+        return Err(LexRefusal::BadByte {
+            file: 0,
+            at: at as u32,
+        });
     }
     let (text, _behind) = bytes.split_at(n);
     push(out, TokenKind::Sign(copy_bytes(alloc, text)?), jml, at, n)?;

@@ -30,18 +30,18 @@ pub struct Token {
     pub jml: bool,
 }
 
-/// Why a text has no tokens. `at` is the offset of the first byte that is at fault.
+/// Why a text has no tokens. A place is a file's number, here always 0, and the offset of the first byte that is at fault.
 #[derive(Clone, Copy, PartialEq, Eq, Debug, Error)]
 pub enum LexRefusal {
     /// The byte begins no token, or it begins a Unicode escape.
     #[error("no token begins with the byte at {at}")]
-    BadByte { at: u32 },
+    BadByte { file: u32, at: u32 },
     /// The comment is not closed.
     #[error("the comment at {at} is not closed")]
-    OpenComment { at: u32 },
+    OpenComment { file: u32, at: u32 },
     /// The number is too great.
     #[error("the number at {at} is too great")]
-    BigLiteral { at: u32 },
+    BigLiteral { file: u32, at: u32 },
     /// Memory ran out.
     #[error("memory ran out")]
     NoMemory,

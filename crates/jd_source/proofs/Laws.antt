@@ -49,9 +49,9 @@ one_filled answer filling ts t u f g =
 
 -- ---- what is read is not refused
 
-not_lacking : OneAnswer → OneFilling → (ts : List Token) (t : JavaUnit) → IsFilled ts t → LackFile ts → ⊥
-not_lacking answer filling ts t f (of_java n) = answer.a_file ts f.java f.read n
-not_lacking answer filling ts t f (of_jml java read n) =
+not_lacking : OneAnswer → OneFilling → (ts : List Token) (t : JavaUnit) (at : ℕ) → IsFilled ts t → LackFile ts at → ⊥
+not_lacking answer filling ts t at f (of_java n shows) = answer.a_file ts f.java f.read n
+not_lacking answer filling ts t at f (of_jml java read n shows) =
     filling.no_spec ts f.java t f.filled (as_java answer ts f.java java (HasNoSpec ts) f.read read n)
 
 not_nesting : OneAnswer → OneFilling → (ts : List Token) (t : JavaUnit) → IsFilled ts t → NestTooDeep ts → ⊥
@@ -62,7 +62,7 @@ not_nesting answer filling ts t f (deep_jml java read d) =
 not_refused : OneList → NoFault → OneAnswer → OneFilling → (bytes : List ℕ) (t : JavaUnit) (r : Reason) → IsSource bytes t → IsReason bytes r → ⊥
 not_refused list fault answer filling bytes t (Faulty f) s first = fault bytes s.tokens f s.spelled first.there
 not_refused list fault answer filling bytes t (Unsupported at what) s u = answer.supported s.tokens s.java at what s.read (moved list (λ ts. IsUnsupported ts at what) bytes s.tokens s.spelled u)
-not_refused list fault answer filling bytes t (NoFile at) s n = not_lacking answer filling s.tokens t (as_filled bytes t s) (moved list LackFile bytes s.tokens s.spelled n.0)
+not_refused list fault answer filling bytes t (NoFile at) s n = not_lacking answer filling s.tokens t at (as_filled bytes t s) (moved list (λ ts. LackFile ts at) bytes s.tokens s.spelled n.0)
 not_refused list fault answer filling bytes t (TooDeep at) s d = not_nesting answer filling s.tokens t (as_filled bytes t s) (moved list NestTooDeep bytes s.tokens s.spelled d.0)
 
 -- ---- one reason
@@ -72,46 +72,46 @@ one_unsupported list answer bytes at other what another u v =
     let is = answer.one_token u.tokens at other what another u.holds (moved list (λ ts. IsUnsupported ts other another) bytes u.tokens u.spelled v) in
     subst (λ (n : ℕ). SameReason (Unsupported at what) (Unsupported n another)) is.0 (subst (λ (w : List ℕ). SameReason (Unsupported at what) (Unsupported at w)) is.1 (same (Unsupported at what)))
 
-unsupported_or_lacking : OneAnswer → (ts : List Token) (at : ℕ) (what : List ℕ) → IsUnsupported ts at what → LackFile ts → ⊥
-unsupported_or_lacking answer ts at what u (of_java n) = answer.unsupported_first ts at what u n
-unsupported_or_lacking answer ts at what u (of_jml java read n) = answer.supported ts java at what read u
+unsupported_or_lacking : OneAnswer → (ts : List Token) (at : ℕ) (what : List ℕ) (other : ℕ) → IsUnsupported ts at what → LackFile ts other → ⊥
+unsupported_or_lacking answer ts at what other u (of_java n shows) = answer.unsupported_first ts at what u n
+unsupported_or_lacking answer ts at what other u (of_jml java read n shows) = answer.supported ts java at what read u
 
 unsupported_or_nesting : OneAnswer → (ts : List Token) (at : ℕ) (what : List ℕ) → IsUnsupported ts at what → NestTooDeep ts → ⊥
 unsupported_or_nesting answer ts at what u (deep_java d) = answer.unsupported_before_depth ts at what u d
 unsupported_or_nesting answer ts at what u (deep_jml java read d) = answer.supported ts java at what read u
 
-lacking_or_nesting : OneAnswer → OneFilling → (ts : List Token) → LackFile ts → NestTooDeep ts → ⊥
-lacking_or_nesting answer filling ts (of_java n) (deep_java d) = answer.no_file_is_not_deep ts n d
-lacking_or_nesting answer filling ts (of_java n) (deep_jml java read d) = answer.a_file ts java read n
-lacking_or_nesting answer filling ts (of_jml java read n) (deep_java d) = answer.not_too_deep ts java read d
-lacking_or_nesting answer filling ts (of_jml java read n) (deep_jml other also d) =
+lacking_or_nesting : OneAnswer → OneFilling → (ts : List Token) (at : ℕ) → LackFile ts at → NestTooDeep ts → ⊥
+lacking_or_nesting answer filling ts at (of_java n shows) (deep_java d) = answer.no_file_is_not_deep ts n d
+lacking_or_nesting answer filling ts at (of_java n shows) (deep_jml java read d) = answer.a_file ts java read n
+lacking_or_nesting answer filling ts at (of_jml java read n shows) (deep_java d) = answer.not_too_deep ts java read d
+lacking_or_nesting answer filling ts at (of_jml java read n shows) (deep_jml other also d) =
     filling.one_cause ts java n (as_java answer ts java other (HasDeepSpec ts) read also d)
 
-unsupported_alone : OneList → OneAnswer → (bytes : List ℕ) (at : ℕ) (what : List ℕ) → SpellSome bytes (λ ts. IsUnsupported ts at what) → SpellSome bytes LackFile → ⊥
-unsupported_alone list answer bytes at what u n = unsupported_or_lacking answer u.tokens at what u.holds (moved list LackFile bytes u.tokens u.spelled n)
+unsupported_alone : OneList → OneAnswer → (bytes : List ℕ) (at : ℕ) (what : List ℕ) (other : ℕ) → SpellSome bytes (λ ts. IsUnsupported ts at what) → SpellSome bytes (λ ts. LackFile ts other) → ⊥
+unsupported_alone list answer bytes at what other u n = unsupported_or_lacking answer u.tokens at what other u.holds (moved list (λ ts. LackFile ts other) bytes u.tokens u.spelled n)
 
 unsupported_not_deep : OneList → OneAnswer → (bytes : List ℕ) (at : ℕ) (what : List ℕ) → SpellSome bytes (λ ts. IsUnsupported ts at what) → SpellSome bytes NestTooDeep → ⊥
 unsupported_not_deep list answer bytes at what u d = unsupported_or_nesting answer u.tokens at what u.holds (moved list NestTooDeep bytes u.tokens u.spelled d)
 
-no_file_not_deep : OneList → OneAnswer → OneFilling → (bytes : List ℕ) → SpellSome bytes LackFile → SpellSome bytes NestTooDeep → ⊥
-no_file_not_deep list answer filling bytes n d = lacking_or_nesting answer filling n.tokens n.holds (moved list NestTooDeep bytes n.tokens n.spelled d)
+no_file_not_deep : OneList → OneAnswer → OneFilling → (bytes : List ℕ) (at : ℕ) → SpellSome bytes (λ ts. LackFile ts at) → SpellSome bytes NestTooDeep → ⊥
+no_file_not_deep list answer filling bytes at n d = lacking_or_nesting answer filling n.tokens at n.holds (moved list NestTooDeep bytes n.tokens n.spelled d)
 
 one_reason : OneList → NoFault → OneFirst → OneAnswer → OneFilling → (bytes : List ℕ) (r s : Reason) → IsReason bytes r → IsReason bytes s → SameReason r s
 one_reason list fault first answer filling bytes (Faulty f) (Faulty g) p q = subst (λ (h : Fault). SameReason (Faulty f) (Faulty h)) (first bytes f g p q) (same (Faulty f))
 one_reason list fault first answer filling bytes (Faulty f) (Unsupported at what) p q = absurd (spelled_faultless fault (λ ts. IsUnsupported ts at what) bytes f q p)
-one_reason list fault first answer filling bytes (Faulty f) (NoFile at) p q = absurd (spelled_faultless fault LackFile bytes f q.0 p)
+one_reason list fault first answer filling bytes (Faulty f) (NoFile at) p q = absurd (spelled_faultless fault (λ ts. LackFile ts at) bytes f q.0 p)
 one_reason list fault first answer filling bytes (Faulty f) (TooDeep at) p q = absurd (spelled_faultless fault NestTooDeep bytes f q.0 p)
 one_reason list fault first answer filling bytes (Unsupported at what) (Faulty g) p q = absurd (spelled_faultless fault (λ ts. IsUnsupported ts at what) bytes g p q)
 one_reason list fault first answer filling bytes (Unsupported at what) (Unsupported other another) p q = one_unsupported list answer bytes at other what another p q
-one_reason list fault first answer filling bytes (Unsupported at what) (NoFile other) p q = absurd (unsupported_alone list answer bytes at what p q.0)
+one_reason list fault first answer filling bytes (Unsupported at what) (NoFile other) p q = absurd (unsupported_alone list answer bytes at what other p q.0)
 one_reason list fault first answer filling bytes (Unsupported at what) (TooDeep other) p q = absurd (unsupported_not_deep list answer bytes at what p q.0)
-one_reason list fault first answer filling bytes (NoFile at) (Faulty g) p q = absurd (spelled_faultless fault LackFile bytes g p.0 q)
-one_reason list fault first answer filling bytes (NoFile at) (Unsupported other what) p q = absurd (unsupported_alone list answer bytes other what q p.0)
+one_reason list fault first answer filling bytes (NoFile at) (Faulty g) p q = absurd (spelled_faultless fault (λ ts. LackFile ts at) bytes g p.0 q)
+one_reason list fault first answer filling bytes (NoFile at) (Unsupported other what) p q = absurd (unsupported_alone list answer bytes other what at q p.0)
 one_reason list fault first answer filling bytes (NoFile at) (NoFile other) p q = no_file at other
-one_reason list fault first answer filling bytes (NoFile at) (TooDeep other) p q = absurd (no_file_not_deep list answer filling bytes p.0 q.0)
+one_reason list fault first answer filling bytes (NoFile at) (TooDeep other) p q = absurd (no_file_not_deep list answer filling bytes at p.0 q.0)
 one_reason list fault first answer filling bytes (TooDeep at) (Faulty g) p q = absurd (spelled_faultless fault NestTooDeep bytes g p.0 q)
 one_reason list fault first answer filling bytes (TooDeep at) (Unsupported other what) p q = absurd (unsupported_not_deep list answer bytes other what q p.0)
-one_reason list fault first answer filling bytes (TooDeep at) (NoFile other) p q = absurd (no_file_not_deep list answer filling bytes q.0 p.0)
+one_reason list fault first answer filling bytes (TooDeep at) (NoFile other) p q = absurd (no_file_not_deep list answer filling bytes other q.0 p.0)
 one_reason list fault first answer filling bytes (TooDeep at) (TooDeep other) p q = too_deep at other
 
 pub one_source : OneList → NoFault → OneFirst → OneAnswer → OneFilling → OneSource

@@ -20,9 +20,9 @@ use Rattle.jd_source.specs.declared.read.SourceRefusal.TheVariants as refusals
 use Rattle.jd_source.specs.Sources.{IsRefused, of_java, of_jml, deep_java, deep_jml}
 
 pub of_text : (bytes : List ℕ) (e : LexRefusal) → lex.Refuses (IsFirstFault bytes) e → IsRefused bytes (refusals.Lexical e)
-of_text bytes (lexical.BadByte at) h = h
-of_text bytes (lexical.OpenComment at) h = h
-of_text bytes (lexical.BigLiteral at) h = h
+of_text bytes (lexical.BadByte file at) h = h.1
+of_text bytes (lexical.OpenComment file at) h = h.1
+of_text bytes (lexical.BigLiteral file at) h = h.1
 of_text bytes lexical.NoMemory h = h
 
 -- each token ends within the bytes
@@ -51,24 +51,24 @@ not_behind : (at end n : ℕ) → at ≤ end → end ≤ n → at ≤ n
 not_behind at end n one other = omega (arith, one, other)
 
 pub of_tokens : (bytes : List ℕ) (ts : List Token) (e : ParseRefusal) → Spells bytes ts → AreSlices bytes ts → parses.Refuses ts e → IsRefused bytes (refusals.Grammatical e)
-of_tokens bytes ts (grammatical.Syntax at) spelled slices h =
-    (record { tokens = ts; spelled = spelled; holds = of_java h.0 }, not_behind at (end_of ts) (length bytes) h.1 (ends_at bytes ts (length ts - 1) slices))
-of_tokens bytes ts (grammatical.Unsupported at what) spelled slices h = record { tokens = ts; spelled = spelled; holds = h }
-of_tokens bytes ts (grammatical.TooDeep at) spelled slices h =
-    (record { tokens = ts; spelled = spelled; holds = deep_java h.0 }, not_behind at (end_of ts) (length bytes) h.1 (ends_at bytes ts (length ts - 1) slices))
+of_tokens bytes ts (grammatical.Syntax file at) spelled slices h =
+    (record { tokens = ts; spelled = spelled; holds = of_java h.1 h.3 }, not_behind at (end_of ts) (length bytes) h.2 (ends_at bytes ts (length ts - 1) slices))
+of_tokens bytes ts (grammatical.Unsupported file at what) spelled slices h = record { tokens = ts; spelled = spelled; holds = h.1 }
+of_tokens bytes ts (grammatical.TooDeep file at) spelled slices h =
+    (record { tokens = ts; spelled = spelled; holds = deep_java h.1 }, not_behind at (end_of ts) (length bytes) h.2 (ends_at bytes ts (length ts - 1) slices))
 of_tokens bytes ts grammatical.NoMemory spelled slices h = h
 
-no_spec : (ts : List Token) (java : JavaUnit) (at : ℕ) → IsNotFilled ts java (grammatical.Syntax at) → HasNoSpec ts java
-no_spec ts java at h = record { before = h.before; behind = h.behind; block = h.block; blocks = h.blocks; read = h.read; refused = h.refused.0 }
+abbrev no_spec : (ts : List Token) (java : JavaUnit) (file at : ℕ) → IsNotFilled ts java (grammatical.Syntax file at) → HasNoSpec ts java
+no_spec ts java file at h = record { before = h.before; behind = h.behind; block = h.block; blocks = h.blocks; read = h.read; refused = h.refused.1 }
 
-deep_spec : (ts : List Token) (java : JavaUnit) (at : ℕ) → IsNotFilled ts java (grammatical.TooDeep at) → HasDeepSpec ts java
-deep_spec ts java at h = record { before = h.before; behind = h.behind; block = h.block; blocks = h.blocks; read = h.read; refused = h.refused.0 }
+deep_spec : (ts : List Token) (java : JavaUnit) (file at : ℕ) → IsNotFilled ts java (grammatical.TooDeep file at) → HasDeepSpec ts java
+deep_spec ts java file at h = record { before = h.before; behind = h.behind; block = h.block; blocks = h.blocks; read = h.read; refused = h.refused.1 }
 
 -- the first JML that is refused
 pub of_specs : (bytes : List ℕ) (ts : List Token) (java : JavaUnit) (e : ParseRefusal) → Spells bytes ts → AreSlices bytes ts → Reads ts java → IsNotFilled ts java e → IsRefused bytes (refusals.Grammatical e)
-of_specs bytes ts java (grammatical.Syntax at) spelled slices read h =
-    (record { tokens = ts; spelled = spelled; holds = of_jml java read (no_spec ts java at h) }, not_behind at (jml.end_of (block_tokens ts h.block)) (length bytes) h.refused.1 (block_ends bytes ts h.block slices))
-of_specs bytes ts java (grammatical.Unsupported at what) spelled slices read h = absurd h.refused
-of_specs bytes ts java (grammatical.TooDeep at) spelled slices read h =
-    (record { tokens = ts; spelled = spelled; holds = deep_jml java read (deep_spec ts java at h) }, not_behind at (jml.end_of (block_tokens ts h.block)) (length bytes) h.refused.1 (block_ends bytes ts h.block slices))
+of_specs bytes ts java (grammatical.Syntax file at) spelled slices read h =
+    (record { tokens = ts; spelled = spelled; holds = of_jml java read (no_spec ts java file at h) h.refused.3 }, not_behind at (jml.end_of (block_tokens ts h.block)) (length bytes) h.refused.2 (block_ends bytes ts h.block slices))
+of_specs bytes ts java (grammatical.Unsupported file at what) spelled slices read h = absurd h.refused
+of_specs bytes ts java (grammatical.TooDeep file at) spelled slices read h =
+    (record { tokens = ts; spelled = spelled; holds = deep_jml java read (deep_spec ts java file at h) }, not_behind at (jml.end_of (block_tokens ts h.block)) (length bytes) h.refused.2 (block_ends bytes ts h.block slices))
 of_specs bytes ts java grammatical.NoMemory spelled slices read h = h

@@ -34,9 +34,9 @@ fn put_at(answer: &mut Answer, refusal: &str, start: u32, at: u32) {
 /// A refusal, with its place counted from where the text starts.
 pub(crate) fn put_refusal(answer: &mut Answer, start: u32, refusal: &ParseRefusal) {
     match refusal {
-        ParseRefusal::Syntax { at } => put_at(answer, "Syntax ", start, *at),
+        ParseRefusal::Syntax { at, .. } => put_at(answer, "Syntax ", start, *at),
         ParseRefusal::Unsupported { at, .. } => put_at(answer, "Unsupported ", start, *at),
-        ParseRefusal::TooDeep { at } => put_at(answer, "TooDeep ", start, *at),
+        ParseRefusal::TooDeep { at, .. } => put_at(answer, "TooDeep ", start, *at),
         ParseRefusal::NoMemory => answer.lack_memory(),
     }
 }

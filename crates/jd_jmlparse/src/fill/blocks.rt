@@ -31,8 +31,8 @@ fn cause_of(refusal: ParseRefusal) -> Cause
     ensures { (place : SpecPlace) (ts : List lexed.Token) → Refuses place ts refusal → Refuses place ts (refusal_of result) }
 {
     match refusal {
-        ParseRefusal::Syntax { at } => Cause::Syntax(at),
-        ParseRefusal::TooDeep { at } => Cause::TooDeep(at),
+        ParseRefusal::Syntax { at, .. } => Cause::Syntax(at),
+        ParseRefusal::TooDeep { at, .. } => Cause::TooDeep(at),
         other => {
             discard(other);
             Cause::NoMemory

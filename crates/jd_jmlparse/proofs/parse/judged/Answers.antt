@@ -1,4 +1,4 @@
-use Rattle.std.proofs.Common.{ap, map, sym, ◌∙◌}
+use Rattle.std.proofs.Common.{ap, map, sym, ◌∙◌, refl}
 use Rattle.jd_lex.specs.View.{tokens_view}
 use Rattle.jd_jml_attributes.specs.Forms.{form_view}
 use Rattle.jd_jml_tokens.specs.Lexemes.{lexeme_view}
@@ -20,7 +20,8 @@ returns-in-Some-clause-refused c =
     let s = c.requires.derived in
     let a = form_view c.in-Ok.form in
     let is = told_is ts ls s.0 a (c.in-Ok.ensures (rooted c.args.place s.0) (read_as c.rows_fit.ensures.names c.args.place c.args.lexemes.now c.args.order.now s)) c.requires.seen in
-    faulty c.one_derivation.ensures c.args.place ts s.0 a c.in-Some.at c.min-at.result _ (derives c.args.place ts ls c.args.order.now s c.requires.seen) is c.in-Some.is c.min-at.ensures c.end_of.ensures
+    let shown = faulty c.one_derivation.ensures c.args.place ts s.0 a c.in-Some.at c.min-at.result _ (derives c.args.place ts ls c.args.order.now s c.requires.seen) is c.in-Some.is c.min-at.ensures c.end_of.ensures in
+    (refl, shown.0, shown.1, shown.2)
 
 pub returns-in-Some-high-clause-refused : goal.returns-in-Some-high-clause-refused
 returns-in-Some-high-clause-refused c =
@@ -29,7 +30,8 @@ returns-in-Some-high-clause-refused c =
     let s = c.requires.derived in
     let a = form_view c.in-Ok.form in
     let is = told_is ts ls s.0 a (c.in-Ok.ensures (rooted c.args.place s.0) (read_as c.rows_fit.ensures.names c.args.place c.args.lexemes.now c.args.order.now s)) c.requires.seen in
-    high c.args.place ts s.0 a c.in-Some-high.at c.min-at-in-Some-high.result _ (derives c.args.place ts ls c.args.order.now s c.requires.seen) is c.in_default-fault.is c.in-Some-high.is c.min-at-in-Some-high.ensures c.end_of-in-Some-high.ensures
+    let shown = high c.args.place ts s.0 a c.in-Some-high.at c.min-at-in-Some-high.result _ (derives c.args.place ts ls c.args.order.now s c.requires.seen) is c.in_default-fault.is c.in-Some-high.is c.min-at-in-Some-high.ensures c.end_of-in-Some-high.ensures in
+    (refl, shown.0, shown.1)
 
 pub returns-in-Ok-clauses_of-clause-read : goal.returns-in-Ok-clauses_of-clause-read
 returns-in-Ok-clauses_of-clause-read c =

@@ -1,4 +1,4 @@
-use Rattle.std.proofs.Common.{ap, map, sym, ◌∙◌}
+use Rattle.std.proofs.Common.{ap, map, sym, ◌∙◌, refl}
 use Rattle.jd_lex.specs.View.{tokens_view}
 use Rattle.jd_java_attributes.specs.Judging.{attributes_view}
 use Rattle.jd_java_tokens.specs.Lexemes.{lexeme_view}
@@ -20,7 +20,8 @@ returns-in-Some-clause-refused c =
     let s = c.requires.derived in
     let a = attributes_view c.in-Ok.attributes in
     let is = told_is ts ls s.0 a (c.in-Ok.ensures (rooted s.0) (read_as c.rows_fit.ensures.names c.args.lexemes.now c.args.order.now s)) c.requires.seen in
-    faulty c.one_derivation.ensures ts s.0 a c.in-Some.at c.min-at.result _ c.requires.supported (derives ts ls c.args.order.now s c.requires.seen) is (sym c.in-Some.ensures) c.min-at.ensures c.end_of.ensures
+    let shown = faulty c.one_derivation.ensures ts s.0 a c.in-Some.at c.min-at.result _ c.requires.supported (derives ts ls c.args.order.now s c.requires.seen) is (sym c.in-Some.ensures) c.min-at.ensures c.end_of.ensures in
+    (refl, shown.0, shown.1, shown.2)
 
 pub returns-in-Some-high-clause-refused : goal.returns-in-Some-high-clause-refused
 returns-in-Some-high-clause-refused c =
@@ -29,7 +30,8 @@ returns-in-Some-high-clause-refused c =
     let s = c.requires.derived in
     let a = attributes_view c.in-Ok.attributes in
     let is = told_is ts ls s.0 a (c.in-Ok.ensures (rooted s.0) (read_as c.rows_fit.ensures.names c.args.lexemes.now c.args.order.now s)) c.requires.seen in
-    high ts s.0 a c.in-Some-high.at c.min-at-in-Some-high.result _ c.requires.supported (derives ts ls c.args.order.now s c.requires.seen) is (sym c.in_default-fault.ensures) c.in-Some-high.is c.min-at-in-Some-high.ensures c.end_of-in-Some-high.ensures
+    let shown = high ts s.0 a c.in-Some-high.at c.min-at-in-Some-high.result _ c.requires.supported (derives ts ls c.args.order.now s c.requires.seen) is (sym c.in_default-fault.ensures) c.in-Some-high.is c.min-at-in-Some-high.ensures c.end_of-in-Some-high.ensures in
+    (refl, shown.0, shown.1)
 
 pub returns-in-Ok-tree_of-clause-read : goal.returns-in-Ok-tree_of-clause-read
 returns-in-Ok-tree_of-clause-read c =
