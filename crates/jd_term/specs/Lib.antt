@@ -7,3 +7,5 @@ pub mod Occurs
 pub mod Shifts
 pub mod Substitutions
 pub mod Renamings
+pub mod Makers
+pub mod Maps

@@ -4,6 +4,8 @@
 mod copies;
 mod equality;
 mod formula;
+mod makers;
+mod mapping;
 mod occurrence;
 mod shifting;
 mod sizes;
@@ -12,6 +14,11 @@ mod term;
 
 pub use copies::{boxed_formula, boxed_loc, boxed_term, copy, copy_term};
 pub use formula::{Elementary, Formula, Modality, Update};
+pub use makers::{
+    anon, arithmetic, copy_leaf, create, element_range, in_locations, modal, select, single, store,
+    sum, union, updated, with_formula, with_formulas, with_object, with_one, with_term, with_terms,
+};
+pub use mapping::{Leaves, counted, map_formula, map_loc, map_pairs, map_term};
 pub use occurrence::{
     is_same, is_same_constant, occurs_const, occurs_const_term, occurs_var, occurs_var_term,
 };

@@ -1,2 +1,3 @@
 pub mod Binderless
+pub mod Like
 pub mod Places

@@ -1,8 +1,10 @@
 //! Updates pushed inward.
 
 ghost use Rattle.jd_syntax.specs.CodeViews.{code_view};
+ghost use Rattle.jd_term.specs.Makers.{GivesFormula};
 ghost use Rattle.jd_term.specs.Formulas.{Modal, formula_view, pair_view, update_view};
-ghost use Rattle.jd_update.specs.Fits.{JoinFits, PushFits};
+ghost use Rattle.jd_update.specs.Fits.{InnerFits, JoinFits, PushFits};
+ghost use Rattle.jd_update.specs.Replace.{inner};
 ghost use Rattle.jd_update.specs.Push.{joined, kept, live, push, simplified, under};
 ghost use Rattle.std.specs.Prelude.{◌≡◌, IfOk, [], map};
 
@@ -10,7 +12,10 @@ use crate::pairs::{joined, kept, live};
 use crate::replace::{inner, replace_loc, replace_term};
 use jd_base::NoMemory;
 use jd_syntax::Code;
-use jd_term::{Elementary, Formula, Modality, Update};
+use jd_term::{
+    Elementary, Formula, Modality, Update, in_locations, modal, updated, with_formula,
+    with_formulas, with_term, with_terms,
+};
 use std::alloc::Global;
 
 /// The formula with its updates pushed inward, to the terms and to the modalities: a term takes what
@@ -44,12 +49,6 @@ pub fn drop_dead(alloc: Global, u: &Update, f: &Formula) -> Result<Update, NoMem
     Ok(Update { pairs })
 }
 
-fn boxed(alloc: Global, f: Formula) -> Result<Box<Formula>, NoMemory>
-    ensures { IfOk result (λ b. b.value ≡ f) }
-{
-    Ok(Box::new(alloc, f)?)
-}
-
 // The formula under the pairs as an update, where there are any.
 fn under(alloc: Global, pairs: Vec<Elementary>, f: Formula) -> Result<Formula, NoMemory>
     ensures { IfOk result (λ g. formula_view g ≡ under (map pair_view pairs.items) (formula_view f)) }
@@ -57,15 +56,13 @@ fn under(alloc: Global, pairs: Vec<Elementary>, f: Formula) -> Result<Formula, N
     if pairs.is_empty() {
         return Ok(f);
     }
-    Ok(Formula::Updated(Update { pairs }, boxed(alloc, f)?))
+    updated(alloc, Ok(Update { pairs }), Ok(f))
 }
 
-fn modal(alloc: Global, m: Modality, c: &Code, a: &Formula) -> Result<Formula, NoMemory>
-    ensures { IfOk result (λ g. formula_view g ≡ Modal m (code_view c.now) (formula_view a.now)) }
+fn copied_modal(alloc: Global, m: Modality, c: &Code, a: &Formula) -> Result<Formula, NoMemory>
+    ensures { GivesFormula result (Modal m (code_view c.now) (formula_view a.now)) }
 {
-    let code = c.copy(alloc)?;
-    let after = a.copy(alloc)?;
-    Ok(Formula::Modal(m, code, boxed(alloc, after)?))
+    modal(alloc, m, c.copy(alloc), a.copy(alloc))
 }
 
 fn before_modality(
@@ -79,85 +76,59 @@ fn before_modality(
         (λ g. formula_view g ≡ push (map pair_view q.now) (Modal m (code_view c.now) (formula_view a.now))) }
 {
     let pairs = kept(alloc, q, c, a)?;
-    let f = modal(alloc, m, c, a)?;
+    let f = copied_modal(alloc, m, c, a)?;
     under(alloc, pairs, f)
 }
 
+// The formula one binder further in.
 #[cycle(pushed)]
-fn pushed_boxed(alloc: Global, q: &[Elementary], f: &Box<Formula>) -> Result<Box<Formula>, NoMemory>
-    requires { PushFits (map pair_view q.now) (formula_view f.now.value) }
-    ensures { IfOk result (λ b. formula_view b.value ≡ push (map pair_view q.now) (formula_view f.now.value)) }
+fn pushed_inside(alloc: Global, q: &[Elementary], f: &Formula) -> Result<Formula, NoMemory>
+    requires inner { InnerFits (map pair_view q.now) }
+    requires fits { PushFits (inner (map pair_view q.now)) (formula_view f.now) }
+    ensures { GivesFormula result (push (inner (map pair_view q.now)) (formula_view f.now)) }
 {
-    let g = pushed(alloc, q, f)?;
-    boxed(alloc, g)
+    let inside = inner(alloc, q)?;
+    pushed(alloc, &inside, f)
 }
 
 // The formula under the replacement.
 #[cycle(pushed)]
 fn pushed(alloc: Global, q: &[Elementary], f: &Formula) -> Result<Formula, NoMemory>
     requires { PushFits (map pair_view q.now) (formula_view f.now) }
-    ensures { IfOk result (λ g. formula_view g ≡ push (map pair_view q.now) (formula_view f.now)) }
+    ensures { GivesFormula result (push (map pair_view q.now) (formula_view f.now)) }
 {
     match f {
         Formula::TrueFormula => Ok(Formula::TrueFormula),
         Formula::FalseFormula => Ok(Formula::FalseFormula),
-        Formula::Not(a) => Ok(Formula::Not(pushed_boxed(alloc, q, a)?)),
-        Formula::And(a, b) => Ok(Formula::And(
-            pushed_boxed(alloc, q, a)?,
-            pushed_boxed(alloc, q, b)?,
-        )),
-        Formula::Or(a, b) => Ok(Formula::Or(
-            pushed_boxed(alloc, q, a)?,
-            pushed_boxed(alloc, q, b)?,
-        )),
-        Formula::Implies(a, b) => Ok(Formula::Implies(
-            pushed_boxed(alloc, q, a)?,
-            pushed_boxed(alloc, q, b)?,
-        )),
-        Formula::Iff(a, b) => Ok(Formula::Iff(
-            pushed_boxed(alloc, q, a)?,
-            pushed_boxed(alloc, q, b)?,
-        )),
-        Formula::Equal(a, b) => Ok(Formula::Equal(
-            replace_term(alloc, q, a)?,
-            replace_term(alloc, q, b)?,
-        )),
-        Formula::Less(a, b) => Ok(Formula::Less(
-            replace_term(alloc, q, a)?,
-            replace_term(alloc, q, b)?,
-        )),
-        Formula::LessOrEqual(a, b) => Ok(Formula::LessOrEqual(
-            replace_term(alloc, q, a)?,
-            replace_term(alloc, q, b)?,
-        )),
-        Formula::Forall(s, a) => {
-            let inside = inner(alloc, q)?;
-            Ok(Formula::Forall(*s, pushed_boxed(alloc, &inside, a)?))
-        }
-        Formula::Exists(s, a) => {
-            let inside = inner(alloc, q)?;
-            Ok(Formula::Exists(*s, pushed_boxed(alloc, &inside, a)?))
-        }
+        Formula::Not(a) => with_formula(alloc, f, pushed(alloc, q, a)),
+        Formula::Forall(_, a) | Formula::Exists(_, a) => with_formula(
+            alloc,
+            f,
+            pushed_inside(alloc, q, a),
+        ),
+        Formula::And(a, b) | Formula::Or(a, b) | Formula::Implies(a, b) | Formula::Iff(a, b) =>
+            with_formulas(alloc, f, pushed(alloc, q, a), pushed(alloc, q, b)),
+        Formula::Equal(a, b)
+        | Formula::Less(a, b)
+        | Formula::LessOrEqual(a, b)
+        | Formula::Invariant(a, b) => with_terms(
+            f,
+            replace_term(alloc, q, a),
+            replace_term(alloc, q, b),
+        ),
+        Formula::InInt(a)
+        | Formula::WellFormed(a)
+        | Formula::IsInstance(_, a)
+        | Formula::IsExactInstance(_, a) => with_term(f, replace_term(alloc, q, a)),
         Formula::Updated(u, a) => {
             let pairs = joined(alloc, q, &u.pairs)?;
             pushed(alloc, &pairs, a)
         }
         Formula::Modal(m, c, a) => before_modality(alloc, q, *m, c, a),
-        Formula::InLocations(a, b, l) => Ok(Formula::InLocations(
-            replace_term(alloc, q, a)?,
-            replace_term(alloc, q, b)?,
-            replace_loc(alloc, q, l)?,
-        )),
-        Formula::InInt(a) => Ok(Formula::InInt(replace_term(alloc, q, a)?)),
-        Formula::WellFormed(a) => Ok(Formula::WellFormed(replace_term(alloc, q, a)?)),
-        Formula::Invariant(a, b) => Ok(Formula::Invariant(
-            replace_term(alloc, q, a)?,
-            replace_term(alloc, q, b)?,
-        )),
-        Formula::IsInstance(k, a) => Ok(Formula::IsInstance(*k, replace_term(alloc, q, a)?)),
-        Formula::IsExactInstance(k, a) => Ok(Formula::IsExactInstance(
-            *k,
-            replace_term(alloc, q, a)?,
-        )),
+        Formula::InLocations(a, b, l) => in_locations(
+            replace_term(alloc, q, a),
+            replace_term(alloc, q, b),
+            replace_loc(alloc, q, l),
+        ),
     }
 }

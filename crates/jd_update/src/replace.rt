@@ -1,6 +1,7 @@
 //! Program variables replaced by terms.
 
 ghost use Rattle.jd_syntax.specs.Names.{var_view};
+ghost use Rattle.jd_term.specs.Makers.{GivesLoc, GivesTerm};
 ghost use Rattle.jd_term.specs.Formulas.{pair_view};
 ghost use Rattle.jd_term.specs.TermViews.{loc_view, term_view};
 ghost use Rattle.jd_update.specs.Fits.{InnerFits, ReplaceFits, ReplaceLocFits};
@@ -10,20 +11,11 @@ ghost use Rattle.std.specs.Prelude.{◌≡◌, IfOk, map};
 use crate::pairs::is_same;
 use jd_base::NoMemory;
 use jd_syntax::VarId;
-use jd_term::{Elementary, Loc, Term, shift_term};
+use jd_term::{
+    Elementary, Loc, Term, anon, arithmetic, copy_leaf, create, element_range, select, shift_term,
+    single, store, sum, union, with_object, with_one,
+};
 use std::alloc::Global;
-
-fn boxed_term(alloc: Global, t: Term) -> Result<Box<Term>, NoMemory>
-    ensures { IfOk result (λ b. b.value ≡ t) }
-{
-    Ok(Box::new(alloc, t)?)
-}
-
-fn boxed_loc(alloc: Global, l: Loc) -> Result<Box<Loc>, NoMemory>
-    ensures { IfOk result (λ b. b.value ≡ l) }
-{
-    Ok(Box::new(alloc, l)?)
-}
 
 // What the variable is replaced by.
 #[tactic(auto, using(jd_syntax::proofs::Lists::rest))]
@@ -52,22 +44,15 @@ pub(crate) fn inner(alloc: Global, q: &[Elementary]) -> Result<Vec<Elementary>, 
     Ok(shifted)
 }
 
+// The term one binder further in.
 #[cycle(replace)]
-fn replace_boxed(alloc: Global, q: &[Elementary], t: &Box<Term>) -> Result<Box<Term>, NoMemory>
-    requires { ReplaceFits (map pair_view q.now) (term_view t.now.value) }
-    ensures { IfOk result (λ b. term_view b.value ≡ replace (map pair_view q.now) (term_view t.now.value)) }
+fn replace_inside(alloc: Global, q: &[Elementary], t: &Term) -> Result<Term, NoMemory>
+    requires inner { InnerFits (map pair_view q.now) }
+    requires fits { ReplaceFits (inner (map pair_view q.now)) (term_view t.now) }
+    ensures { GivesTerm result (replace (inner (map pair_view q.now)) (term_view t.now)) }
 {
-    let replaced = replace_term(alloc, q, t)?;
-    boxed_term(alloc, replaced)
-}
-
-#[cycle(replace)]
-fn replace_boxed_loc(alloc: Global, q: &[Elementary], l: &Box<Loc>) -> Result<Box<Loc>, NoMemory>
-    requires { ReplaceLocFits (map pair_view q.now) (loc_view l.now.value) }
-    ensures { IfOk result (λ b. loc_view b.value ≡ replace_loc (map pair_view q.now) (loc_view l.now.value)) }
-{
-    let replaced = replace_loc(alloc, q, l)?;
-    boxed_loc(alloc, replaced)
+    let inside = inner(alloc, q)?;
+    replace_term(alloc, &inside, t)
 }
 
 /// The term with each program variable replaced by the right side of its first pair in `q`, if it
@@ -75,55 +60,55 @@ fn replace_boxed_loc(alloc: Global, q: &[Elementary], l: &Box<Loc>) -> Result<Bo
 #[cycle(replace)]
 pub fn replace_term(alloc: Global, q: &[Elementary], t: &Term) -> Result<Term, NoMemory>
     requires { ReplaceFits (map pair_view q.now) (term_view t.now) }
-    ensures { IfOk result (λ r. term_view r ≡ replace (map pair_view q.now) (term_view t.now)) }
+    ensures { GivesTerm result (replace (map pair_view q.now) (term_view t.now)) }
 {
     match t {
-        Term::Number(n) => Ok(Term::Number(*n)),
-        Term::Boolean(b) => Ok(Term::Boolean(*b)),
-        Term::NullTerm => Ok(Term::NullTerm),
         Term::ProgramVariable(x) => look(alloc, q, x),
-        Term::Constant(c) => Ok(Term::Constant(c.copy(alloc)?)),
-        Term::Bound(i, s) => Ok(Term::Bound(*i, *s)),
-        Term::Arithmetic(o, a, b) => Ok(Term::Arithmetic(
+        Term::Number(_)
+        | Term::Boolean(_)
+        | Term::NullTerm
+        | Term::Constant(_)
+        | Term::Bound(_, _)
+        | Term::NamedField(_)
+        | Term::CreatedField => copy_leaf(alloc, t),
+        Term::Negation(a) | Term::Wrap(a) | Term::Length(a) | Term::ElementField(a) => with_one(
+            alloc,
+            t,
+            replace_term(alloc, q, a),
+        ),
+        Term::Arithmetic(o, a, b) => arithmetic(
+            alloc,
             *o,
-            replace_boxed(alloc, q, a)?,
-            replace_boxed(alloc, q, b)?,
-        )),
-        Term::Negation(a) => Ok(Term::Negation(replace_boxed(alloc, q, a)?)),
-        Term::Wrap(a) => Ok(Term::Wrap(replace_boxed(alloc, q, a)?)),
-        Term::Length(a) => Ok(Term::Length(replace_boxed(alloc, q, a)?)),
-        Term::Select(s, a, b, c) => Ok(Term::Select(
+            replace_term(alloc, q, a),
+            replace_term(alloc, q, b),
+        ),
+        Term::Create(a, b) => create(alloc, replace_term(alloc, q, a), replace_term(alloc, q, b)),
+        Term::Select(s, a, b, c) => select(
+            alloc,
             *s,
-            replace_boxed(alloc, q, a)?,
-            replace_boxed(alloc, q, b)?,
-            replace_boxed(alloc, q, c)?,
-        )),
-        Term::Sum(a, b, c) => {
-            let inside = inner(alloc, q)?;
-            Ok(Term::Sum(
-                replace_boxed(alloc, q, a)?,
-                replace_boxed(alloc, q, b)?,
-                replace_boxed(alloc, &inside, c)?,
-            ))
-        }
-        Term::Store(a, b, c, d) => Ok(Term::Store(
-            replace_boxed(alloc, q, a)?,
-            replace_boxed(alloc, q, b)?,
-            replace_boxed(alloc, q, c)?,
-            replace_boxed(alloc, q, d)?,
-        )),
-        Term::Create(a, b) => Ok(Term::Create(
-            replace_boxed(alloc, q, a)?,
-            replace_boxed(alloc, q, b)?,
-        )),
-        Term::Anon(a, l, b) => Ok(Term::Anon(
-            replace_boxed(alloc, q, a)?,
-            replace_boxed_loc(alloc, q, l)?,
-            replace_boxed(alloc, q, b)?,
-        )),
-        Term::NamedField(f) => Ok(Term::NamedField(*f)),
-        Term::CreatedField => Ok(Term::CreatedField),
-        Term::ElementField(a) => Ok(Term::ElementField(replace_boxed(alloc, q, a)?)),
+            replace_term(alloc, q, a),
+            replace_term(alloc, q, b),
+            replace_term(alloc, q, c),
+        ),
+        Term::Sum(a, b, c) => sum(
+            alloc,
+            replace_term(alloc, q, a),
+            replace_term(alloc, q, b),
+            replace_inside(alloc, q, c),
+        ),
+        Term::Store(a, b, c, d) => store(
+            alloc,
+            replace_term(alloc, q, a),
+            replace_term(alloc, q, b),
+            replace_term(alloc, q, c),
+            replace_term(alloc, q, d),
+        ),
+        Term::Anon(a, l, b) => anon(
+            alloc,
+            replace_term(alloc, q, a),
+            replace_loc(alloc, q, l),
+            replace_term(alloc, q, b),
+        ),
     }
 }
 
@@ -131,25 +116,23 @@ pub fn replace_term(alloc: Global, q: &[Elementary], t: &Term) -> Result<Term, N
 #[cycle(replace)]
 pub fn replace_loc(alloc: Global, q: &[Elementary], l: &Loc) -> Result<Loc, NoMemory>
     requires { ReplaceLocFits (map pair_view q.now) (loc_view l.now) }
-    ensures { IfOk result (λ m. loc_view m ≡ replace_loc (map pair_view q.now) (loc_view l.now)) }
+    ensures { GivesLoc result (replace_loc (map pair_view q.now) (loc_view l.now)) }
 {
     match l {
         Loc::NoLocations => Ok(Loc::NoLocations),
         Loc::AllLocations => Ok(Loc::AllLocations),
-        Loc::Single(a, b) => Ok(Loc::Single(
-            replace_boxed(alloc, q, a)?,
-            replace_boxed(alloc, q, b)?,
-        )),
-        Loc::ObjectFields(a) => Ok(Loc::ObjectFields(replace_boxed(alloc, q, a)?)),
-        Loc::ArrayElements(a) => Ok(Loc::ArrayElements(replace_boxed(alloc, q, a)?)),
-        Loc::ElementRange(a, b, c) => Ok(Loc::ElementRange(
-            replace_boxed(alloc, q, a)?,
-            replace_boxed(alloc, q, b)?,
-            replace_boxed(alloc, q, c)?,
-        )),
-        Loc::Union(l, m) => Ok(Loc::Union(
-            replace_boxed_loc(alloc, q, l)?,
-            replace_boxed_loc(alloc, q, m)?,
-        )),
+        Loc::ObjectFields(a) | Loc::ArrayElements(a) => with_object(
+            alloc,
+            l,
+            replace_term(alloc, q, a),
+        ),
+        Loc::Single(a, b) => single(alloc, replace_term(alloc, q, a), replace_term(alloc, q, b)),
+        Loc::ElementRange(a, b, c) => element_range(
+            alloc,
+            replace_term(alloc, q, a),
+            replace_term(alloc, q, b),
+            replace_term(alloc, q, c),
+        ),
+        Loc::Union(a, b) => union(alloc, replace_loc(alloc, q, a), replace_loc(alloc, q, b)),
     }
 }

@@ -41,19 +41,24 @@ fn tell_raised(
     f: &Formula,
 ) {
     match f {
-        Formula::InInt(t) if may_raise_term(t, from, by) => put_term(
+        Formula::InInt(t) if may_raise_term(t, from as u64, by) => put_term(
             answer,
             alloc,
             names,
             shift_term(alloc, t, from, by),
         ),
-        Formula::InLocations(_, _, l) if may_raise_loc(l, from, by) => put_printed(
+        Formula::InLocations(_, _, l) if may_raise_loc(l, from as u64, by) => put_printed(
             answer,
             alloc,
             names,
             in_formula(shift_loc(alloc, l, from, by)),
         ),
-        _ if may_raise(f, from, by) => put_printed(answer, alloc, names, shift(alloc, f, from, by)),
+        _ if may_raise(f, from as u64, by) => put_printed(
+            answer,
+            alloc,
+            names,
+            shift(alloc, f, from, by),
+        ),
         _ => answer.put("not fit"),
     }
 }
@@ -80,13 +85,9 @@ fn tell_put(
 ) {
     let sort = sort_of(t);
     match f {
-        Formula::InInt(s) if fits_term(s, 0, index, t) && agrees_term(s, index, sort) => put_term(
-            answer,
-            alloc,
-            names,
-            subst_term(alloc, s, index, t),
-        ),
-        _ if fits(f, 0, index, t) && agrees(f, index, sort) => put_printed(
+        Formula::InInt(s) if fits_term(s, 0, index, t) && agrees_term(s, index as u64, sort) =>
+            put_term(answer, alloc, names, subst_term(alloc, s, index, t)),
+        _ if fits(f, 0, index, t) && agrees(f, index as u64, sort) => put_printed(
             answer,
             alloc,
             names,

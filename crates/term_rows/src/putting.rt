@@ -53,7 +53,7 @@ pub(crate) fn fits(f: &Formula, depth: u32, index: u32, t: &Term) -> bool
         Formula::Not(a) => fits(a, depth, index, t),
         Formula::LessOrEqual(a, b) => fits_term(a, depth, index, t)
             && fits_term(b, depth, index, t),
-        Formula::Forall(_, a) => depth < 1000 && index < 1000 && fits(a, depth + 1, index, t),
+        Formula::Forall(_, a) => depth < 1000 && fits(a, depth + 1, index, t),
         Formula::Updated(u, a) => fits_pairs(&u.pairs, depth, index, t) && fits(a, depth, index, t),
         Formula::InLocations(a, b, l) => fits_term(a, depth, index, t)
             && fits_term(b, depth, index, t)
@@ -65,18 +65,18 @@ pub(crate) fn fits(f: &Formula, depth: u32, index: u32, t: &Term) -> bool
 // ---- the index has this sort
 
 /// Whether it has in a term.
-pub(crate) fn agrees_term(s: &Term, index: u32, sort: Sort) -> bool
+pub(crate) fn agrees_term(s: &Term, index: u64, sort: Sort) -> bool
     ensures { IsTrue result → TermSortsAgree index sort (term_view s.now) }
 {
     match s {
-        Term::Bound(k, own) => *k != index || *own == sort,
+        Term::Bound(k, own) => *k as u64 != index || *own == sort,
         Term::Number(_) | Term::NullTerm | Term::CreatedField | Term::ProgramVariable(_) => true,
         Term::Negation(a) => agrees_term(a, index, sort),
         _ => false,
     }
 }
 
-fn agrees_loc(l: &Loc, index: u32, sort: Sort) -> bool
+fn agrees_loc(l: &Loc, index: u64, sort: Sort) -> bool
     ensures { IsTrue result → LocSortsAgree index sort (loc_view l.now) }
 {
     match l {
@@ -87,7 +87,7 @@ fn agrees_loc(l: &Loc, index: u32, sort: Sort) -> bool
     }
 }
 
-fn agrees_pairs(pairs: &[Elementary], index: u32, sort: Sort) -> bool
+fn agrees_pairs(pairs: &[Elementary], index: u64, sort: Sort) -> bool
     ensures { IsTrue result → PairsSortsAgree index sort (map pair_view pairs.now) }
 {
     match pairs {
@@ -97,14 +97,14 @@ fn agrees_pairs(pairs: &[Elementary], index: u32, sort: Sort) -> bool
 }
 
 /// Whether it has in a formula.
-pub(crate) fn agrees(f: &Formula, index: u32, sort: Sort) -> bool
+pub(crate) fn agrees(f: &Formula, index: u64, sort: Sort) -> bool
     ensures { IsTrue result → SortsAgree index sort (formula_view f.now) }
 {
     match f {
         Formula::TrueFormula => true,
         Formula::Not(a) => agrees(a, index, sort),
         Formula::LessOrEqual(a, b) => agrees_term(a, index, sort) && agrees_term(b, index, sort),
-        Formula::Forall(_, a) => index < 1000 && agrees(a, index + 1, sort),
+        Formula::Forall(_, a) => index < u64::MAX && agrees(a, index + 1, sort),
         Formula::Updated(u, a) => agrees_pairs(&u.pairs, index, sort) && agrees(a, index, sort),
         Formula::InLocations(a, b, l) => agrees_term(a, index, sort)
             && agrees_term(b, index, sort)
