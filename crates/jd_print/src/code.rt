@@ -1,315 +1,180 @@
 //! The text of code.
 
-ghost use Rattle.std.specs.Prelude.{◌≡◌, OnOk, codes, map};
-ghost use Rattle.jd_syntax.specs.CodeViews.{code_view, expr_view, stmt_view};
-ghost use Rattle.jd_syntax.specs.Codes.{exprs_of, stmts_of};
+ghost use Rattle.std.specs.Prelude.{map, option_map};
 ghost use Rattle.jd_bracketed.specs.Tokens.{Word};
-ghost use Rattle.jd_written.specs.Written.{write};
-ghost use Rattle.jd_tgrammar.specs.Spelling.{method_word};
+ghost use Rattle.jd_syntax.specs.CodeViews.{code_view, expr_view, kind_view, stmt_view};
+ghost use Rattle.jd_syntax.specs.Codes.{exprs_of, stmts_of};
+ghost use Rattle.jd_syntax.specs.Names.{var_view};
+ghost use Rattle.jd_written.specs.Written.{Text, write};
+ghost use Rattle.jd_tgrammar.specs.Spelling as spelling;
+ghost use Rattle.jd_print.specs.Printings.{Holds};
 ghost use Rattle.jd_print.specs.Writing as writing;
 
 use crate::names::NameTexts;
-use crate::words::{
-    begin, binary_word, truth_word, unary_word, write_field, write_kind, write_label, write_method,
-    write_result,
-};
-use jd_base::{ClassId, MethodId, NoMemory};
-use jd_syntax::{Code, CodeExpr, CodeStmt};
-use jd_written::Written;
-use std::alloc::Global;
+use crate::printing::Printing;
+use crate::words::{expr_word, stmt_word, truth_word};
+use jd_base::{ClassId, MethodId};
+use jd_syntax::{Code, CodeExpr, CodeStmt, Kind, VarId};
 
-// An opening bracket, the word of a call, and the method by a class that sees it.
-fn begin_call<N: NameTexts>(
-    alloc: Global,
-    out: &mut Written,
-    names: &N,
-    class: ClassId,
-    method: MethodId,
-) -> Result<(), NoMemory>
-    ensures { OnOk result (out.new ≡ write (writing.begin out.old (codes "call")) (Word (method_word (N.table names.now) class.0 method.0))) }
-{
-    begin(out, b"call")?;
-    write_method(alloc, out, names, class, method)
-}
+impl Printing {
+    // Writes a class.
+    fn class<N: NameTexts>(self, names: &N, class: ClassId) -> Printing
+        ensures { (t : Text) → Holds self t → Holds result (write t (Word (spelling.class_word (N.table names.now) class.0))) }
+    {
+        self.word(names.class_name(class))
+    }
 
-// An expression.
-#[cycle(write_code)]
-fn write_expr<N: NameTexts>(
-    alloc: Global,
-    out: &mut Written,
-    names: &N,
-    expr: &CodeExpr,
-) -> Result<(), NoMemory>
-    ensures { OnOk result (out.new ≡ writing.write_expr (N.table names.now) out.old (expr_view expr.now)) }
-{
-    match expr {
-        CodeExpr::IntLiteral(n) => out.integer(i128::from(*n)),
-        CodeExpr::BoolLiteral(truth) => out.word(truth_word(*truth)),
-        CodeExpr::NullLiteral => out.word(b"null"),
-        CodeExpr::Variable(variable) => out.word(&variable.name),
-        CodeExpr::Unary(operation, a) => {
-            begin(out, unary_word(*operation))?;
-            write_expr(alloc, out, names, a)?;
-            out.close()
-        }
-        CodeExpr::Binary(operation, a, b) => {
-            begin(out, binary_word(*operation))?;
-            write_expr(alloc, out, names, a)?;
-            write_expr(alloc, out, names, b)?;
-            out.close()
-        }
-        CodeExpr::AndAlso(a, b) => {
-            begin(out, b"and")?;
-            write_expr(alloc, out, names, a)?;
-            write_expr(alloc, out, names, b)?;
-            out.close()
-        }
-        CodeExpr::OrElse(a, b) => {
-            begin(out, b"or")?;
-            write_expr(alloc, out, names, a)?;
-            write_expr(alloc, out, names, b)?;
-            out.close()
-        }
-        CodeExpr::Conditional(a, b, c) => {
-            begin(out, b"cond")?;
-            write_expr(alloc, out, names, a)?;
-            write_expr(alloc, out, names, b)?;
-            write_expr(alloc, out, names, c)?;
-            out.close()
-        }
-        CodeExpr::ReadField(object, field) => {
-            begin(out, b"get")?;
-            write_expr(alloc, out, names, object)?;
-            write_field(alloc, out, names, *field)?;
-            out.close()
-        }
-        CodeExpr::ReadElement(array, index) => {
-            begin(out, b"aget")?;
-            write_expr(alloc, out, names, array)?;
-            write_expr(alloc, out, names, index)?;
-            out.close()
-        }
-        CodeExpr::LengthOf(array) => {
-            begin(out, b"len")?;
-            write_expr(alloc, out, names, array)?;
-            out.close()
-        }
-        CodeExpr::Cast(kind, a) => {
-            begin(out, b"cast")?;
-            write_kind(out, names, *kind)?;
-            write_expr(alloc, out, names, a)?;
-            out.close()
-        }
-        CodeExpr::InstanceOf(kind, a) => {
-            begin(out, b"inst")?;
-            write_kind(out, names, *kind)?;
-            write_expr(alloc, out, names, a)?;
-            out.close()
-        }
-        CodeExpr::VirtualCall(class, method, receiver, arguments) => {
-            begin_call(alloc, out, names, *class, *method)?;
-            write_expr(alloc, out, names, receiver)?;
-            write_exprs(alloc, out, names, arguments)?;
-            out.close()
-        }
-        CodeExpr::StaticCall(method, arguments) => {
-            begin(out, b"scall")?;
-            write_method(alloc, out, names, names.routine_class(*method), *method)?;
-            write_exprs(alloc, out, names, arguments)?;
-            out.close()
-        }
-        CodeExpr::ConstructorCall(constructor, object, arguments) => {
-            begin(out, b"ctor")?;
-            out.word(names.class_name(names.routine_class(*constructor)))?;
-            write_expr(alloc, out, names, object)?;
-            write_exprs(alloc, out, names, arguments)?;
-            out.close()
-        }
-        CodeExpr::DoThen(code, a) => {
-            begin(out, b"do")?;
-            write_code(alloc, out, names, code)?;
-            write_expr(alloc, out, names, a)?;
-            out.close()
+    // Writes a method by a class that sees it, and its name.
+    fn method<N: NameTexts>(self, names: &N, class: ClassId, method: MethodId) -> Printing
+        ensures { (t : Text) → Holds self t → Holds result (write t (Word (spelling.method_word (N.table names.now) class.0 method.0))) }
+    {
+        self.member(names.class_name(class), names.routine_name(method))
+    }
+
+    /// Writes a class, or `int[]`.
+    pub(crate) fn kind<N: NameTexts>(self, names: &N, kind: Kind) -> Printing
+        ensures { (t : Text) → Holds self t → Holds result (write t (Word (spelling.kind_word (N.table names.now) (kind_view kind)))) }
+    {
+        match kind {
+            Kind::Class(class) => self.class(names, class),
+            Kind::IntArray => self.word(b"int[]"),
         }
     }
-}
 
-// Expressions one after the other.
-#[cycle(write_code)]
-#[tactic(auto, using(jd_syntax::proofs::Lists::rest))]
-fn write_exprs<N: NameTexts>(
-    alloc: Global,
-    out: &mut Written,
-    names: &N,
-    exprs: &[CodeExpr],
-) -> Result<(), NoMemory>
-    ensures { OnOk result (out.new ≡ writing.write_exprs (N.table names.now) out.old (exprs_of (map expr_view exprs.now))) }
-{
-    for expr in exprs {
-        write_expr(alloc, out, names, expr)?;
-    }
-    Ok(())
-}
-
-// A statement.
-#[cycle(write_code)]
-fn write_stmt<N: NameTexts>(
-    alloc: Global,
-    out: &mut Written,
-    names: &N,
-    stmt: &CodeStmt,
-) -> Result<(), NoMemory>
-    ensures { OnOk result (out.new ≡ writing.write_stmt (N.table names.now) out.old (stmt_view stmt.now)) }
-{
-    match stmt {
-        CodeStmt::Set(variable, a) => {
-            begin(out, b"set")?;
-            out.word(&variable.name)?;
-            write_expr(alloc, out, names, a)?;
-            out.close()
-        }
-        CodeStmt::WriteField(object, field, value) => {
-            begin(out, b"put")?;
-            write_expr(alloc, out, names, object)?;
-            write_field(alloc, out, names, *field)?;
-            write_expr(alloc, out, names, value)?;
-            out.close()
-        }
-        CodeStmt::WriteElement(array, index, value) => {
-            begin(out, b"aput")?;
-            write_expr(alloc, out, names, array)?;
-            write_expr(alloc, out, names, index)?;
-            write_expr(alloc, out, names, value)?;
-            out.close()
-        }
-        CodeStmt::Evaluate(a) => {
-            begin(out, b"eval")?;
-            write_expr(alloc, out, names, a)?;
-            out.close()
-        }
-        CodeStmt::If(test, then, other) => {
-            begin(out, b"if")?;
-            write_expr(alloc, out, names, test)?;
-            write_code(alloc, out, names, then)?;
-            write_code(alloc, out, names, other)?;
-            out.close()
-        }
-        CodeStmt::While(number, test, body) => {
-            begin(out, b"while")?;
-            out.number(u64::from(*number))?;
-            write_expr(alloc, out, names, test)?;
-            write_code(alloc, out, names, body)?;
-            out.close()
-        }
-        CodeStmt::Block(label, body) => {
-            begin(out, b"block")?;
-            write_label(alloc, out, *label)?;
-            write_code(alloc, out, names, body)?;
-            out.close()
-        }
-        CodeStmt::Break(label) => {
-            begin(out, b"break")?;
-            write_label(alloc, out, *label)?;
-            out.close()
-        }
-        CodeStmt::Catch(body, variable, handler) => {
-            begin(out, b"catch")?;
-            write_code(alloc, out, names, body)?;
-            out.word(&variable.name)?;
-            write_code(alloc, out, names, handler)?;
-            out.close()
-        }
-        CodeStmt::Finally(body, last) => {
-            begin(out, b"finally")?;
-            write_code(alloc, out, names, body)?;
-            write_code(alloc, out, names, last)?;
-            out.close()
-        }
-        CodeStmt::Throw(a) => {
-            begin(out, b"throw")?;
-            write_expr(alloc, out, names, a)?;
-            out.close()
-        }
-        CodeStmt::ThrowUnchecked(a) => {
-            begin(out, b"throwx")?;
-            write_expr(alloc, out, names, a)?;
-            out.close()
-        }
-        CodeStmt::Return(a) => {
-            begin(out, b"return")?;
-            write_expr(alloc, out, names, a)?;
-            out.close()
-        }
-        CodeStmt::ReturnVoid => {
-            begin(out, b"return")?;
-            out.close()
-        }
-        CodeStmt::Frame(variable, body) => {
-            begin(out, b"frame")?;
-            write_result(out, names, variable)?;
-            write_code(alloc, out, names, body)?;
-            out.close()
-        }
-        CodeStmt::Raise(class) => {
-            begin(out, b"raise")?;
-            out.word(names.class_name(*class))?;
-            out.close()
-        }
-        CodeStmt::AllocObject(variable, class) => {
-            begin(out, b"alloc")?;
-            out.word(&variable.name)?;
-            out.word(names.class_name(*class))?;
-            out.close()
-        }
-        CodeStmt::AllocArray(variable, length) => {
-            begin(out, b"alloc")?;
-            out.word(&variable.name)?;
-            begin(out, b"arr")?;
-            write_expr(alloc, out, names, length)?;
-            out.close()?;
-            out.close()
-        }
-        CodeStmt::NewArray(variable, length) => {
-            begin(out, b"allocarr")?;
-            out.word(&variable.name)?;
-            write_expr(alloc, out, names, length)?;
-            out.close()
-        }
-        CodeStmt::Stop => {
-            begin(out, b"stop")?;
-            out.close()
+    // Writes the variable that takes a result, or `-`.
+    fn taker<N: NameTexts>(self, names: &N, variable: &Option<VarId>) -> Printing
+        ensures { (t : Text) → Holds self t → Holds result (write t (Word (spelling.result_word (N.table names.now) (option_map var_view variable.now)))) }
+    {
+        match variable {
+            Some(variable) => self.word(&variable.name),
+            None => self.word(b"-"),
         }
     }
-}
 
-// Statements one after the other.
-#[cycle(write_code)]
-#[tactic(auto, using(jd_syntax::proofs::Lists::rest))]
-fn write_stmts<N: NameTexts>(
-    alloc: Global,
-    out: &mut Written,
-    names: &N,
-    stmts: &[CodeStmt],
-) -> Result<(), NoMemory>
-    ensures { OnOk result (out.new ≡ writing.write_stmts (N.table names.now) out.old (stmts_of (map stmt_view stmts.now))) }
-{
-    for stmt in stmts {
-        write_stmt(alloc, out, names, stmt)?;
+    // Writes an expression.
+    #[cycle(code)]
+    fn expr<N: NameTexts>(self, names: &N, expr: &CodeExpr) -> Printing
+        ensures { (t : Text) → Holds self t → Holds result (writing.write_expr (N.table names.now) t (expr_view expr.now)) }
+    {
+        let head = expr_word(expr);
+        match expr {
+            CodeExpr::IntLiteral(n) => self.integer(i128::from(*n)),
+            CodeExpr::BoolLiteral(truth) => self.word(truth_word(*truth)),
+            CodeExpr::NullLiteral => self.word(head),
+            CodeExpr::Variable(variable) => self.word(&variable.name),
+            CodeExpr::Unary(_, a) | CodeExpr::LengthOf(a) => {
+                self.begin(head).expr(names, a).close()
+            }
+            CodeExpr::Binary(_, a, b)
+            | CodeExpr::AndAlso(a, b)
+            | CodeExpr::OrElse(a, b)
+            | CodeExpr::ReadElement(a, b) => {
+                self.begin(head).expr(names, a).expr(names, b).close()
+            }
+            CodeExpr::Conditional(a, b, c) => self
+                .begin(head)
+                .expr(names, a)
+                .expr(names, b)
+                .expr(names, c)
+                .close(),
+            CodeExpr::ReadField(a, field) => {
+                self.begin(head).expr(names, a).field(names, *field).close()
+            }
+            CodeExpr::Cast(kind, a) | CodeExpr::InstanceOf(kind, a) => {
+                self.begin(head).kind(names, *kind).expr(names, a).close()
+            }
+            CodeExpr::VirtualCall(class, method, a, operands) => self
+                .begin(head)
+                .method(names, *class, *method)
+                .expr(names, a)
+                .exprs(names, operands)
+                .close(),
+            CodeExpr::StaticCall(method, operands) => self
+                .begin(head)
+                .method(names, names.routine_class(*method), *method)
+                .exprs(names, operands)
+                .close(),
+            CodeExpr::ConstructorCall(method, a, operands) => self
+                .begin(head)
+                .class(names, names.routine_class(*method))
+                .expr(names, a)
+                .exprs(names, operands)
+                .close(),
+            CodeExpr::DoThen(code, a) => {
+                self.begin(head).code(names, code).expr(names, a).close()
+            }
+        }
     }
-    Ok(())
-}
 
-// Statements in brackets.
-#[cycle(write_code)]
-pub(crate) fn write_code<N: NameTexts>(
-    alloc: Global,
-    out: &mut Written,
-    names: &N,
-    code: &Code,
-) -> Result<(), NoMemory>
-    ensures { OnOk result (out.new ≡ writing.write_code (N.table names.now) out.old (code_view code.now)) }
-{
-    out.open()?;
-    write_stmts(alloc, out, names, &code.stmts)?;
-    out.close()
+    // Writes expressions one after the other.
+    #[cycle(code)]
+    fn exprs<N: NameTexts>(self, names: &N, exprs: &[CodeExpr]) -> Printing
+        ensures { (t : Text) → Holds self t → Holds result (writing.write_exprs (N.table names.now) t (exprs_of (map expr_view exprs.now))) }
+    {
+        let mut out = self;
+        for expr in exprs {
+            out = out.expr(names, expr);
+        }
+        out
+    }
+
+    // Writes a statement.
+    #[cycle(code)]
+    fn stmt<N: NameTexts>(self, names: &N, stmt: &CodeStmt) -> Printing
+        ensures { (t : Text) → Holds self t → Holds result (writing.write_stmt (N.table names.now) t (stmt_view stmt.now)) }
+    {
+        let out = self.begin(stmt_word(stmt));
+        let out = match stmt {
+            CodeStmt::ReturnVoid | CodeStmt::Stop => out,
+            CodeStmt::Evaluate(a)
+            | CodeStmt::Throw(a)
+            | CodeStmt::ThrowUnchecked(a)
+            | CodeStmt::Return(a) => out.expr(names, a),
+            CodeStmt::Set(variable, a) | CodeStmt::NewArray(variable, a) => {
+                out.word(&variable.name).expr(names, a)
+            }
+            CodeStmt::WriteField(a, f, b) => out.expr(names, a).field(names, *f).expr(names, b),
+            CodeStmt::WriteElement(a, b, c) => out.expr(names, a).expr(names, b).expr(names, c),
+            CodeStmt::If(a, b, c) => out.expr(names, a).code(names, b).code(names, c),
+            CodeStmt::While(n, a, b) => out.number(*n).expr(names, a).code(names, b),
+            CodeStmt::Block(label, a) => out.label(*label).code(names, a),
+            CodeStmt::Break(label) => out.label(*label),
+            CodeStmt::Catch(a, variable, b) => {
+                out.code(names, a).word(&variable.name).code(names, b)
+            }
+            CodeStmt::Finally(a, b) => out.code(names, a).code(names, b),
+            CodeStmt::Frame(variable, a) => out.taker(names, variable).code(names, a),
+            CodeStmt::Raise(class) => out.class(names, *class),
+            CodeStmt::AllocObject(variable, class) => {
+                out.word(&variable.name).class(names, *class)
+            }
+            CodeStmt::AllocArray(variable, a) => {
+                out.word(&variable.name)
+                    .begin(b"arr")
+                    .expr(names, a)
+                    .close()
+            }
+        };
+        out.close()
+    }
+
+    // Writes statements one after the other.
+    #[cycle(code)]
+    fn stmts<N: NameTexts>(self, names: &N, stmts: &[CodeStmt]) -> Printing
+        ensures { (t : Text) → Holds self t → Holds result (writing.write_stmts (N.table names.now) t (stmts_of (map stmt_view stmts.now))) }
+    {
+        let mut out = self;
+        for stmt in stmts {
+            out = out.stmt(names, stmt);
+        }
+        out
+    }
+
+    /// Writes statements in brackets.
+    #[cycle(code)]
+    pub(crate) fn code<N: NameTexts>(self, names: &N, code: &Code) -> Printing
+        ensures { (t : Text) → Holds self t → Holds result (writing.write_code (N.table names.now) t (code_view code.now)) }
+    {
+        self.open().stmts(names, &code.stmts).close()
+    }
 }

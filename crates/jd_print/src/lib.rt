@@ -4,6 +4,7 @@
 mod code;
 mod formulas;
 mod names;
+mod printing;
 mod terms;
 mod words;
 

@@ -1,143 +1,93 @@
 //! The text of terms and location sets.
 
-ghost use Rattle.std.specs.Prelude.{◌≡◌, OnOk, IfOk};
+ghost use Rattle.std.specs.Prelude.{◌≡◌, IfOk};
 ghost use Rattle.jd_bracketed.specs.Trees.{spell};
+ghost use Rattle.jd_bracketed.specs.Tokens.{Word};
 ghost use Rattle.jd_term.specs.TermViews.{loc_view, term_view};
-ghost use Rattle.jd_written.specs.Written.{text_of};
-ghost use Rattle.jd_tgrammar.specs.Spelling.{term_text};
+ghost use Rattle.jd_written.specs.Written.{Text, text_of, write};
+ghost use Rattle.jd_tgrammar.specs.Spelling.{field_word, term_text};
+ghost use Rattle.jd_print.specs.Printings.{Holds};
 ghost use Rattle.jd_print.specs.Writing as writing;
 
 use crate::names::NameTexts;
-use crate::words::{arithmetic_word, begin, select_word, truth_word, write_bound, write_field};
-use jd_base::NoMemory;
+use crate::printing::Printing;
+use crate::words::{loc_word, term_word, truth_word};
+use jd_base::{FieldId, NoMemory};
 use jd_term::{Loc, Term};
-use jd_written::Written;
 use std::alloc::Global;
 
-// A term.
-#[cycle(write_term)]
-pub(crate) fn write_term<N: NameTexts>(
-    alloc: Global,
-    out: &mut Written,
-    names: &N,
-    term: &Term,
-) -> Result<(), NoMemory>
-    ensures { OnOk result (out.new ≡ writing.write_term (N.table names.now) out.old (term_view term.now)) }
-{
-    match term {
-        Term::Number(n) => out.integer(*n),
-        Term::Boolean(truth) => out.word(truth_word(*truth)),
-        Term::NullTerm => out.word(b"null"),
-        Term::ProgramVariable(variable) => out.word(&variable.name),
-        Term::Constant(constant) => out.word(&constant.name),
-        Term::Bound(k, _) => write_bound(alloc, out, *k),
-        Term::Arithmetic(operation, a, b) => {
-            begin(out, arithmetic_word(*operation))?;
-            write_term(alloc, out, names, a)?;
-            write_term(alloc, out, names, b)?;
-            out.close()
-        }
-        Term::Negation(a) => {
-            begin(out, b"neg")?;
-            write_term(alloc, out, names, a)?;
-            out.close()
-        }
-        Term::Wrap(a) => {
-            begin(out, b"wrap")?;
-            write_term(alloc, out, names, a)?;
-            out.close()
-        }
-        Term::Length(a) => {
-            begin(out, b"len")?;
-            write_term(alloc, out, names, a)?;
-            out.close()
-        }
-        Term::Select(sort, heap, object, field) => {
-            begin(out, select_word(*sort))?;
-            write_term(alloc, out, names, heap)?;
-            write_term(alloc, out, names, object)?;
-            write_term(alloc, out, names, field)?;
-            out.close()
-        }
-        Term::Sum(from, to, summand) => {
-            begin(out, b"bsum")?;
-            write_term(alloc, out, names, from)?;
-            write_term(alloc, out, names, to)?;
-            write_term(alloc, out, names, summand)?;
-            out.close()
-        }
-        Term::Store(heap, object, field, value) => {
-            begin(out, b"store")?;
-            write_term(alloc, out, names, heap)?;
-            write_term(alloc, out, names, object)?;
-            write_term(alloc, out, names, field)?;
-            write_term(alloc, out, names, value)?;
-            out.close()
-        }
-        Term::Create(heap, object) => {
-            begin(out, b"create")?;
-            write_term(alloc, out, names, heap)?;
-            write_term(alloc, out, names, object)?;
-            out.close()
-        }
-        Term::Anon(heap, locations, other) => {
-            begin(out, b"anon")?;
-            write_term(alloc, out, names, heap)?;
-            write_loc(alloc, out, names, locations)?;
-            write_term(alloc, out, names, other)?;
-            out.close()
-        }
-        Term::NamedField(field) => write_field(alloc, out, names, *field),
-        Term::CreatedField => out.word(b"created"),
-        Term::ElementField(index) => {
-            begin(out, b"idx")?;
-            write_term(alloc, out, names, index)?;
-            out.close()
+impl Printing {
+    /// Writes a field by its class and name.
+    pub(crate) fn field<N: NameTexts>(self, names: &N, field: FieldId) -> Printing
+        ensures { (t : Text) → Holds self t → Holds result (write t (Word (field_word (N.table names.now) field.0))) }
+    {
+        let class = names.field_class(field);
+        self.member(names.class_name(class), names.field_name(field))
+    }
+
+    /// Writes a term.
+    #[cycle(term)]
+    pub(crate) fn term<N: NameTexts>(self, names: &N, term: &Term) -> Printing
+        ensures { (t : Text) → Holds self t → Holds result (writing.write_term (N.table names.now) t (term_view term.now)) }
+    {
+        let head = term_word(term);
+        match term {
+            Term::Number(n) => self.integer(*n),
+            Term::Boolean(truth) => self.word(truth_word(*truth)),
+            Term::NullTerm | Term::CreatedField => self.word(head),
+            Term::ProgramVariable(variable) => self.word(&variable.name),
+            Term::Constant(constant) => self.word(&constant.name),
+            Term::Bound(k, _) => self.bound(*k),
+            Term::NamedField(field) => self.field(names, *field),
+            Term::Negation(a) | Term::Wrap(a) | Term::Length(a) | Term::ElementField(a) => {
+                self.begin(head).term(names, a).close()
+            }
+            Term::Arithmetic(_, a, b) | Term::Create(a, b) => self
+                .begin(head)
+                .term(names, a)
+                .term(names, b)
+                .close(),
+            Term::Select(_, a, b, c) | Term::Sum(a, b, c) => self
+                .begin(head)
+                .term(names, a)
+                .term(names, b)
+                .term(names, c)
+                .close(),
+            Term::Anon(a, l, b) => self
+                .begin(head)
+                .term(names, a)
+                .loc(names, l)
+                .term(names, b)
+                .close(),
+            Term::Store(a, b, c, d) => self
+                .begin(head)
+                .term(names, a)
+                .term(names, b)
+                .term(names, c)
+                .term(names, d)
+                .close(),
         }
     }
-}
 
-// A location set.
-#[cycle(write_term)]
-pub(crate) fn write_loc<N: NameTexts>(
-    alloc: Global,
-    out: &mut Written,
-    names: &N,
-    locations: &Loc,
-) -> Result<(), NoMemory>
-    ensures { OnOk result (out.new ≡ writing.write_loc (N.table names.now) out.old (loc_view locations.now)) }
-{
-    match locations {
-        Loc::NoLocations => out.word(b"none"),
-        Loc::AllLocations => out.word(b"all"),
-        Loc::Single(object, field) => {
-            begin(out, b"loc")?;
-            write_term(alloc, out, names, object)?;
-            write_term(alloc, out, names, field)?;
-            out.close()
-        }
-        Loc::ObjectFields(object) => {
-            begin(out, b"obj")?;
-            write_term(alloc, out, names, object)?;
-            out.close()
-        }
-        Loc::ArrayElements(object) => {
-            begin(out, b"arrall")?;
-            write_term(alloc, out, names, object)?;
-            out.close()
-        }
-        Loc::ElementRange(object, first, last) => {
-            begin(out, b"arr")?;
-            write_term(alloc, out, names, object)?;
-            write_term(alloc, out, names, first)?;
-            write_term(alloc, out, names, last)?;
-            out.close()
-        }
-        Loc::Union(a, b) => {
-            begin(out, b"union")?;
-            write_loc(alloc, out, names, a)?;
-            write_loc(alloc, out, names, b)?;
-            out.close()
+    /// Writes a location set.
+    #[cycle(term)]
+    pub(crate) fn loc<N: NameTexts>(self, names: &N, loc: &Loc) -> Printing
+        ensures { (t : Text) → Holds self t → Holds result (writing.write_loc (N.table names.now) t (loc_view loc.now)) }
+    {
+        let head = loc_word(loc);
+        match loc {
+            Loc::NoLocations | Loc::AllLocations => self.word(head),
+            Loc::ObjectFields(a) | Loc::ArrayElements(a) => {
+                self.begin(head).term(names, a).close()
+            }
+            Loc::Single(a, b) => self.begin(head).term(names, a).term(names, b).close(),
+            Loc::ElementRange(a, b, c) => self
+                .begin(head)
+                .term(names, a)
+                .term(names, b)
+                .term(names, c)
+                .close(),
+            Loc::Union(l, m) => self.begin(head).loc(names, l).loc(names, m).close(),
         }
     }
 }
@@ -150,7 +100,6 @@ pub(crate) fn write_loc<N: NameTexts>(
 pub fn print_term<N: NameTexts>(alloc: Global, term: &Term, names: &N) -> Result<Vec<u8>, NoMemory>
     ensures { IfOk result (λ v. v.items ≡ text_of (spell (term_text (N.table names.now) (term_view term.now)))) }
 {
-    let mut out = Written::new(alloc);
-    write_term(alloc, &mut out, names, term)?;
-    Ok(out.into_bytes())
+    let out = Printing::new(alloc).term(names, term);
+    out.bytes
 }

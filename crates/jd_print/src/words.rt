@@ -1,21 +1,15 @@
 //! The words of terms, formulas and code.
 
-ghost use Rattle.std.specs.Prelude.{◌≡◌, ◌∷◌, OnOk, option_map};
-ghost use Rattle.jd_syntax.specs.CodeViews.{kind_view};
-ghost use Rattle.jd_syntax.specs.Names.{var_view};
-ghost use Rattle.jd_bracketed.specs.Tokens.{Word};
-ghost use Rattle.jd_written.specs.Written.{number_text, write};
-ghost use Rattle.jd_tgrammar.specs.NameTables.{member_word};
-ghost use Rattle.jd_tgrammar.specs.Spelling as spelling;
+ghost use Rattle.std.specs.Prelude.{◌≡◌};
+ghost use Rattle.jd_syntax.specs.CodeViews.{expr_view, stmt_view};
+ghost use Rattle.jd_term.specs.Formulas.{formula_view};
+ghost use Rattle.jd_term.specs.TermViews.{loc_view, term_view};
 ghost use Rattle.jd_tgrammar.specs.Words as plain;
-ghost use Rattle.jd_print.specs.Writing as writing;
+ghost use Rattle.jd_print.specs.Heads as writing;
 
-use crate::names::NameTexts;
-use jd_base::{ClassId, FieldId, MethodId, NoMemory, Sort};
-use jd_syntax::{BinaryOp, Kind, UnaryOp, VarId};
-use jd_term::{ArithmeticOp, Modality};
-use jd_written::{Written, add_number};
-use std::alloc::Global;
+use jd_base::Sort;
+use jd_syntax::{BinaryOp, CodeExpr, CodeStmt, UnaryOp};
+use jd_term::{ArithmeticOp, Formula, Loc, Modality, Term};
 
 pub(crate) fn sort_word(sort: Sort) -> &'static [u8]
     ensures { result.now ≡ plain.sort_word sort }
@@ -35,7 +29,7 @@ pub(crate) fn truth_word(truth: bool) -> &'static [u8]
     if truth { b"true" } else { b"false" }
 }
 
-pub(crate) fn arithmetic_word(operation: ArithmeticOp) -> &'static [u8]
+fn arithmetic_word(operation: ArithmeticOp) -> &'static [u8]
     ensures { result.now ≡ plain.arithmetic_word operation }
 {
     match operation {
@@ -47,7 +41,7 @@ pub(crate) fn arithmetic_word(operation: ArithmeticOp) -> &'static [u8]
     }
 }
 
-pub(crate) fn select_word(sort: Sort) -> &'static [u8]
+fn select_word(sort: Sort) -> &'static [u8]
     ensures { result.now ≡ plain.select_word sort }
 {
     match sort {
@@ -57,7 +51,7 @@ pub(crate) fn select_word(sort: Sort) -> &'static [u8]
     }
 }
 
-pub(crate) fn modality_word(modality: Modality) -> &'static [u8]
+fn modality_word(modality: Modality) -> &'static [u8]
     ensures { result.now ≡ plain.modality_word modality }
 {
     match modality {
@@ -66,7 +60,7 @@ pub(crate) fn modality_word(modality: Modality) -> &'static [u8]
     }
 }
 
-pub(crate) fn unary_word(operation: UnaryOp) -> &'static [u8]
+fn unary_word(operation: UnaryOp) -> &'static [u8]
     ensures { result.now ≡ plain.unary_word operation }
 {
     match operation {
@@ -75,7 +69,7 @@ pub(crate) fn unary_word(operation: UnaryOp) -> &'static [u8]
     }
 }
 
-pub(crate) fn binary_word(operation: BinaryOp) -> &'static [u8]
+fn binary_word(operation: BinaryOp) -> &'static [u8]
     ensures { result.now ≡ plain.binary_word operation }
 {
     match operation {
@@ -93,104 +87,123 @@ pub(crate) fn binary_word(operation: BinaryOp) -> &'static [u8]
     }
 }
 
-// An opening bracket and a word.
-pub(crate) fn begin(out: &mut Written, word: &[u8]) -> Result<(), NoMemory>
-    ensures { OnOk result (out.new ≡ writing.begin out.old word.now) }
+/// The word of a term's form; none of a name or a literal, which is its own.
+pub(crate) fn term_word(term: &Term) -> &'static [u8]
+    ensures { result.now ≡ writing.term_word (term_view term.now) }
 {
-    out.open()?;
-    out.word(word)
-}
-
-// A word of a mark and a number.
-fn write_marked(alloc: Global, out: &mut Written, mark: u8, n: u32) -> Result<(), NoMemory>
-    ensures { OnOk result (out.new ≡ write out.old (Word (mark ∷ number_text n))) }
-{
-    let mut word = Vec::new(alloc);
-    word.push(mark)?;
-    add_number(&mut word, u64::from(n))?;
-    out.word(&word)
-}
-
-// `%k`
-pub(crate) fn write_bound(alloc: Global, out: &mut Written, k: u32) -> Result<(), NoMemory>
-    ensures { OnOk result (out.new ≡ write out.old (Word (plain.bound_word k))) }
-{
-    write_marked(alloc, out, b'%', k)
-}
-
-// `lN`
-pub(crate) fn write_label(alloc: Global, out: &mut Written, label: u32) -> Result<(), NoMemory>
-    ensures { OnOk result (out.new ≡ write out.old (Word (plain.label_word label))) }
-{
-    write_marked(alloc, out, b'l', label)
-}
-
-// `C.m`
-fn write_member(alloc: Global, out: &mut Written, class: &[u8], name: &[u8]) -> Result<(), NoMemory>
-    ensures { OnOk result (out.new ≡ write out.old (Word (member_word class.now name.now))) }
-{
-    let mut word = Vec::new(alloc);
-    word.extend_from_slice(class)?;
-    word.push(b'.')?;
-    word.extend_from_slice(name)?;
-    out.word(&word)
-}
-
-// A field by its class and name.
-pub(crate) fn write_field<N: NameTexts>(
-    alloc: Global,
-    out: &mut Written,
-    names: &N,
-    field: FieldId,
-) -> Result<(), NoMemory>
-    ensures { OnOk result (out.new ≡ write out.old (Word (spelling.field_word (N.table names.now) field.0))) }
-{
-    let class = names.field_class(field);
-    write_member(alloc, out, names.class_name(class), names.field_name(field))
-}
-
-// A method by a class that sees it, and its name.
-pub(crate) fn write_method<N: NameTexts>(
-    alloc: Global,
-    out: &mut Written,
-    names: &N,
-    class: ClassId,
-    method: MethodId,
-) -> Result<(), NoMemory>
-    ensures { OnOk result (out.new ≡ write out.old (Word (spelling.method_word (N.table names.now) class.0 method.0))) }
-{
-    write_member(
-        alloc,
-        out,
-        names.class_name(class),
-        names.routine_name(method),
-    )
-}
-
-// A class, or `int[]`.
-pub(crate) fn write_kind<N: NameTexts>(
-    out: &mut Written,
-    names: &N,
-    kind: Kind,
-) -> Result<(), NoMemory>
-    ensures { OnOk result (out.new ≡ write out.old (Word (spelling.kind_word (N.table names.now) (kind_view kind)))) }
-{
-    match kind {
-        Kind::Class(class) => out.word(names.class_name(class)),
-        Kind::IntArray => out.word(b"int[]"),
+    match term {
+        Term::Number(_)
+        | Term::Boolean(_)
+        | Term::ProgramVariable(_)
+        | Term::Constant(_)
+        | Term::Bound(_, _)
+        | Term::NamedField(_) => b"",
+        Term::NullTerm => b"null",
+        Term::CreatedField => b"created",
+        Term::Arithmetic(operation, _, _) => arithmetic_word(*operation),
+        Term::Negation(_) => b"neg",
+        Term::Wrap(_) => b"wrap",
+        Term::Length(_) => b"len",
+        Term::Select(sort, _, _, _) => select_word(*sort),
+        Term::Sum(_, _, _) => b"bsum",
+        Term::Store(_, _, _, _) => b"store",
+        Term::Create(_, _) => b"create",
+        Term::Anon(_, _, _) => b"anon",
+        Term::ElementField(_) => b"idx",
     }
 }
 
-// The variable that takes a result, or `-`.
-pub(crate) fn write_result<N: NameTexts>(
-    out: &mut Written,
-    names: &N,
-    variable: &Option<VarId>,
-) -> Result<(), NoMemory>
-    ensures { OnOk result (out.new ≡ write out.old (Word (spelling.result_word (N.table names.now) (option_map var_view variable.now)))) }
+/// The word of a location set's form.
+pub(crate) fn loc_word(loc: &Loc) -> &'static [u8]
+    ensures { result.now ≡ writing.loc_word (loc_view loc.now) }
 {
-    match variable {
-        Some(variable) => out.word(&variable.name),
-        None => out.word(b"-"),
+    match loc {
+        Loc::NoLocations => b"none",
+        Loc::AllLocations => b"all",
+        Loc::Single(_, _) => b"loc",
+        Loc::ObjectFields(_) => b"obj",
+        Loc::ArrayElements(_) => b"arrall",
+        Loc::ElementRange(_, _, _) => b"arr",
+        Loc::Union(_, _) => b"union",
+    }
+}
+
+/// The word of a formula's form.
+pub(crate) fn formula_word(formula: &Formula) -> &'static [u8]
+    ensures { result.now ≡ writing.formula_word (formula_view formula.now) }
+{
+    match formula {
+        Formula::TrueFormula => b"true",
+        Formula::FalseFormula => b"false",
+        Formula::Not(_) => b"not",
+        Formula::And(_, _) => b"and",
+        Formula::Or(_, _) => b"or",
+        Formula::Implies(_, _) => b"imp",
+        Formula::Iff(_, _) => b"iff",
+        Formula::Equal(_, _) => b"eq",
+        Formula::Less(_, _) => b"lt",
+        Formula::LessOrEqual(_, _) => b"le",
+        Formula::Forall(_, _) => b"forall",
+        Formula::Exists(_, _) => b"exists",
+        Formula::Updated(_, _) => b"upd",
+        Formula::Modal(modality, _, _) => modality_word(*modality),
+        Formula::InLocations(_, _, _) => b"in",
+        Formula::InInt(_) => b"inInt",
+        Formula::WellFormed(_) => b"wf",
+        Formula::Invariant(_, _) => b"inv",
+        Formula::IsInstance(_, _) => b"inst",
+        Formula::IsExactInstance(_, _) => b"exact",
+    }
+}
+
+/// The word of an expression's form; none of a variable or a literal, which is its own.
+pub(crate) fn expr_word(expr: &CodeExpr) -> &'static [u8]
+    ensures { result.now ≡ writing.expr_word (expr_view expr.now) }
+{
+    match expr {
+        CodeExpr::IntLiteral(_) | CodeExpr::BoolLiteral(_) | CodeExpr::Variable(_) => b"",
+        CodeExpr::NullLiteral => b"null",
+        CodeExpr::Unary(operation, _) => unary_word(*operation),
+        CodeExpr::Binary(operation, _, _) => binary_word(*operation),
+        CodeExpr::AndAlso(_, _) => b"and",
+        CodeExpr::OrElse(_, _) => b"or",
+        CodeExpr::Conditional(_, _, _) => b"cond",
+        CodeExpr::ReadField(_, _) => b"get",
+        CodeExpr::ReadElement(_, _) => b"aget",
+        CodeExpr::LengthOf(_) => b"len",
+        CodeExpr::Cast(_, _) => b"cast",
+        CodeExpr::InstanceOf(_, _) => b"inst",
+        CodeExpr::VirtualCall(_, _, _, _) => b"call",
+        CodeExpr::StaticCall(_, _) => b"scall",
+        CodeExpr::ConstructorCall(_, _, _) => b"ctor",
+        CodeExpr::DoThen(_, _) => b"do",
+    }
+}
+
+/// The word of a statement's form.
+pub(crate) fn stmt_word(stmt: &CodeStmt) -> &'static [u8]
+    ensures { result.now ≡ writing.stmt_word (stmt_view stmt.now) }
+{
+    match stmt {
+        CodeStmt::Set(_, _) => b"set",
+        CodeStmt::WriteField(_, _, _) => b"put",
+        CodeStmt::WriteElement(_, _, _) => b"aput",
+        CodeStmt::Evaluate(_) => b"eval",
+        CodeStmt::If(_, _, _) => b"if",
+        CodeStmt::While(_, _, _) => b"while",
+        CodeStmt::Block(_, _) => b"block",
+        CodeStmt::Break(_) => b"break",
+        CodeStmt::Catch(_, _, _) => b"catch",
+        CodeStmt::Finally(_, _) => b"finally",
+        CodeStmt::Throw(_) => b"throw",
+        CodeStmt::ThrowUnchecked(_) => b"throwx",
+        CodeStmt::Return(_) => b"return",
+        CodeStmt::ReturnVoid => b"return",
+        CodeStmt::Frame(_, _) => b"frame",
+        CodeStmt::Raise(_) => b"raise",
+        CodeStmt::AllocObject(_, _) => b"alloc",
+        CodeStmt::AllocArray(_, _) => b"alloc",
+        CodeStmt::NewArray(_, _) => b"allocarr",
+        CodeStmt::Stop => b"stop",
     }
 }

@@ -62,6 +62,20 @@ after s = l (w (codes "box") ∷ l (s ∷ []) ∷ w (codes "true") ∷ [])
 abbrev pub set : List ℕ → Bracketed → Bracketed
 set name e = l (w (codes "set") ∷ w name ∷ e ∷ [])
 
+-- `(eval E)`, `(do () E)`
+abbrev pub evaluate : Bracketed → Bracketed
+evaluate e = l (w (codes "eval") ∷ e ∷ [])
+
+abbrev pub done_then : Bracketed → Bracketed
+done_then e = l (w (codes "do") ∷ l [] ∷ e ∷ [])
+
+-- `(store @heap o C.f X)`
+abbrev pub stored : List ℕ → Bracketed
+stored t = l (w (codes "store") ∷ w (codes "@heap") ∷ w (codes "o") ∷ w (codes "C.f") ∷ w t ∷ [])
+
+abbrev pub heap : terms.PlainTerm
+heap = terms.ProgramVariable (record { text = codes "@heap"; sort = HeapSort })
+
 pub record FaultExamples : Type 0 where
   pub no_form : formula short ≡ Refused NoForm
   pub no_symbol : formula unknown ≡ Refused UnknownSymbol
@@ -85,6 +99,9 @@ pub record FaultExamples : Type 0 where
   pub other_sort : term_answer table IntSort (w (codes "null")) ≡ Refused SortMismatch
   pub that_sort : term_answer table RefSort (w (codes "null")) ≡ Is terms.NullTerm
   pub no_term : term_answer table IntSort short ≡ Refused NoForm
+  -- what is stored may have any sort
+  pub stored_heap : term_answer table HeapSort (stored (codes "@heap")) ≡ Is (terms.Store heap (terms.ProgramVariable o) (terms.NamedField 0) heap)
+  pub stored_field : term_answer table HeapSort (stored (codes "created")) ≡ Is (terms.Store heap (terms.ProgramVariable o) (terms.NamedField 0) terms.CreatedField)
   -- binders
   pub unbound : formula (equal (codes "%0") (codes "1")) ≡ Refused UnknownSymbol
   pub bound : formula (l (w (codes "forall") ∷ w (codes "Int") ∷ equal (codes "%0") (codes "1") ∷ [])) ≡ Is (formulas.Forall IntSort (formulas.Equal (terms.Bound 0 IntSort) (terms.Number (pos 1))))
@@ -104,8 +121,12 @@ pub record FaultExamples : Type 0 where
       ≡ Is (formulas.Modal modalities.Necessity (Then (code.Set x (code.VirtualCall 1 0 (code.Variable o) (ExprThen (code.IntLiteral (pos 1)) NoExprs))) Done) formulas.TrueFormula)
   pub called_with_less : formula (after (set (codes "x") (l (w (codes "call") ∷ w (codes "C.m") ∷ w (codes "o") ∷ [])))) ≡ Refused SortMismatch
   pub called_static : formula (after (set (codes "x") (l (w (codes "call") ∷ w (codes "C.s") ∷ w (codes "o") ∷ [])))) ≡ Refused UnknownSymbol
-  -- a call without a result may be evaluated, and not assigned
+  -- a call without a result may be evaluated, and neither assigned nor the last part of a `do`
   pub evaluated : formula (after (l (w (codes "eval") ∷ l (w (codes "scall") ∷ w (codes "C.s") ∷ []) ∷ []))) ≡ Is (formulas.Modal modalities.Necessity (Then (code.Evaluate (code.StaticCall 1 NoExprs)) Done) formulas.TrueFormula)
+  pub done : formula (after (evaluate (done_then (l (w (codes "call") ∷ w (codes "C.m") ∷ w (codes "o") ∷ w (codes "1") ∷ [])))))
+      ≡ Is (formulas.Modal modalities.Necessity (Then (code.Evaluate (code.DoThen Done (code.VirtualCall 1 0 (code.Variable o) (ExprThen (code.IntLiteral (pos 1)) NoExprs)))) Done) formulas.TrueFormula)
+  pub done_without_result : formula (after (evaluate (done_then (l (w (codes "scall") ∷ w (codes "C.s") ∷ []))))) ≡ Refused SortMismatch
+  pub done_twice : formula (after (evaluate (done_then (done_then (l (w (codes "scall") ∷ w (codes "C.s") ∷ [])))))) ≡ Refused SortMismatch
   pub no_result : formula (after (set (codes "x") (l (w (codes "scall") ∷ w (codes "C.s") ∷ [])))) ≡ Refused SortMismatch
   -- a `return` belongs to the innermost frame
   pub returned : formula (after (l (w (codes "frame") ∷ w (codes "-") ∷ l (l (w (codes "return") ∷ []) ∷ []) ∷ []))) ≡ Is (formulas.Modal modalities.Necessity (Then (code.Frame None (Then code.ReturnVoid Done)) Done) formulas.TrueFormula)

@@ -1,5 +1,6 @@
 -- Trees whose parts have the sorts that their places ask for.
 use Rattle.std.specs.Prelude.{ℕ, List, [], ◌∷◌, Bool, true, false, cond, get_or, ◌&&◌, Option, Some, None}
+use Rattle.std.specs.Option.{is_some}
 use Rattle.jd_base.specs.declared.sort.Sort.{Sort}
 use Rattle.jd_base.specs.declared.sort.Sort.TheVariants.{Int as IntSort, Bool as BoolSort, Ref as RefSort, Heap as HeapSort, Field as FieldSort}
 use Rattle.jd_syntax.specs.CodeNames.{same_sort}
@@ -44,8 +45,8 @@ abbrev mutual
   term_sorted (terms.Length o) = has_sort RefSort o && term_sorted o
   term_sorted (terms.Select s h o f) = has_sort HeapSort h && term_sorted h && has_sort RefSort o && term_sorted o && has_sort FieldSort f && term_sorted f
   term_sorted (terms.Sum t u v) = has_sort IntSort t && term_sorted t && has_sort IntSort u && term_sorted u && has_sort IntSort v && term_sorted v
-  term_sorted (terms.Store h o f t) =
-      has_sort HeapSort h && term_sorted h && has_sort RefSort o && term_sorted o && has_sort FieldSort f && term_sorted f && is_value (sort_of_term t) && term_sorted t
+  -- what is stored has any sort: a heap or a field takes the entry away
+  term_sorted (terms.Store h o f t) = has_sort HeapSort h && term_sorted h && has_sort RefSort o && term_sorted o && has_sort FieldSort f && term_sorted f && term_sorted t
   term_sorted (terms.Create h o) = has_sort HeapSort h && term_sorted h && has_sort RefSort o && term_sorted o
   term_sorted (terms.Anon h l g) = has_sort HeapSort h && term_sorted h && loc_sorted l && has_sort HeapSort g && term_sorted g
   term_sorted (terms.NamedField f) = true
@@ -146,6 +147,13 @@ module _ (names : NameTable) where
   abbrev pub is : Sort → Expr → Bool
   is s e = is_some_sort s (expr_sort e)
 
+  -- a call may be evaluated without a value, where it is itself what is evaluated; all else has one, and so has the last part of `do`
+  abbrev pub may_evaluate : Expr → Bool
+  may_evaluate (code.VirtualCall c m e es) = true
+  may_evaluate (code.StaticCall m es) = true
+  may_evaluate (code.ConstructorCall m e es) = true
+  may_evaluate e = is_some (expr_sort e)
+
   abbrev mutual
     -- where a `return` has to give this
     pub expr_sorted : Returns → Expr → Bool
@@ -180,8 +188,7 @@ module _ (names : NameTable) where
     stmt_sorted r (code.Set x e) = is_value x.sort && is x.sort e && expr_sorted r e
     stmt_sorted r (code.WriteField e f g) = is RefSort e && is (field_sort f) g && expr_sorted r e && expr_sorted r g
     stmt_sorted r (code.WriteElement e f g) = is RefSort e && is IntSort f && is IntSort g && expr_sorted r e && expr_sorted r f && expr_sorted r g
-    -- a call without a value may be evaluated
-    stmt_sorted r (code.Evaluate e) = expr_sorted r e
+    stmt_sorted r (code.Evaluate e) = may_evaluate e && expr_sorted r e
     stmt_sorted r (code.If e ss ts) = is BoolSort e && expr_sorted r e && code_sorted r ss && code_sorted r ts
     stmt_sorted r (code.While k e ss) = is BoolSort e && expr_sorted r e && code_sorted r ss
     stmt_sorted r (code.Block l ss) = code_sorted r ss

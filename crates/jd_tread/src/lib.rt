@@ -8,5 +8,5 @@ mod terms;
 
 pub use answer::answer_term;
 pub use refusal::TermRefusal;
-pub use sorted::{has_sort, is_sorted, is_sorted_loc};
-pub use terms::{read_loc, read_term};
+pub use sorted::{has_sort, is_sorted, is_sorted_loc, same_sort};
+pub use terms::{first_word, read_loc, read_term, under};

@@ -8,7 +8,8 @@ ghost use Rattle.jd_tforms.specs.Sorted as plain;
 use jd_base::Sort;
 use jd_term::{Loc, Term, sort_of};
 
-fn same_sort(a: Sort, b: Sort) -> bool
+/// Whether two sorts are one.
+pub fn same_sort(a: Sort, b: Sort) -> bool
     ensures { result ≡ names.same_sort a b }
 {
     match (a, b) {
@@ -26,16 +27,6 @@ pub fn has_sort(sort: Sort, term: &Term) -> bool
     ensures { result ≡ plain.has_sort sort (term_view term.now) }
 {
     same_sort(sort_of(term), sort)
-}
-
-// Whether it is the sort of a value of Java.
-fn is_value(sort: Sort) -> bool
-    ensures { result ≡ plain.is_value sort }
-{
-    match sort {
-        Sort::Int | Sort::Bool | Sort::Ref => true,
-        Sort::Heap | Sort::Field => false,
-    }
 }
 
 /// Whether the parts of the term have the sorts of their places.
@@ -72,7 +63,6 @@ pub fn is_sorted(term: &Term) -> bool
             && is_sorted(o)
             && has_sort(Sort::Field, f)
             && is_sorted(f)
-            && is_value(sort_of(a))
             && is_sorted(a),
         Term::Create(h, o) => has_sort(Sort::Heap, h)
             && is_sorted(h)

@@ -4,29 +4,22 @@ ghost use Rattle.std.specs.Prelude.{◌≡◌, ◌∷◌, IfOk, Some, map, optio
 ghost use Rattle.jd_syntax.specs.Sxs.{bracketed_list, sx_view};
 ghost use Rattle.jd_term.specs.TermViews.{loc_view, term_view};
 ghost use Rattle.jd_tforms.specs.Reading as plain;
-ghost use Rattle.jd_tread.specs.Behind.{first_word, rest_of};
+ghost use Rattle.jd_tread.specs.Behind as behind;
+ghost use Rattle.jd_tread.specs.Behind.{rest_of};
 
 use jd_base::{NoMemory, Sort};
 use jd_syntax::Sx;
-use jd_term::{Loc, Term};
+use jd_term::{Loc, Term, boxed_loc, boxed_term};
 use jd_tforms::{LocHead, TermHead};
 use jd_twords::{NameMeanings, loc_head, term_head, word_loc, word_term};
 use std::alloc::Global;
 
-fn boxed(alloc: Global, term: Term) -> Result<Box<Term>, NoMemory>
-    ensures { IfOk result (λ b. b.value ≡ term) }
-{
-    Ok(Box::new(alloc, term)?)
-}
-
-fn boxed_loc(alloc: Global, loc: Loc) -> Result<Box<Loc>, NoMemory>
-    ensures { IfOk result (λ b. b.value ≡ loc) }
-{
-    Ok(Box::new(alloc, loc)?)
-}
-
-// The binders with one more around.
-fn under(alloc: Global, sort: Sort, binders: &[Sort]) -> Result<Vec<Sort>, NoMemory>
+/// The binders with one more around.
+///
+/// # Errors
+///
+/// `NoMemory` if memory runs out.
+pub fn under(alloc: Global, sort: Sort, binders: &[Sort]) -> Result<Vec<Sort>, NoMemory>
     ensures { IfOk result (λ v. v.items ≡ sort ∷ binders.now) }
 {
     let mut inner = Vec::with_capacity(alloc, binders.len().saturating_add(1))?;
@@ -35,9 +28,9 @@ fn under(alloc: Global, sort: Sort, binders: &[Sort]) -> Result<Vec<Sort>, NoMem
     Ok(inner)
 }
 
-// The word that stands first.
-fn first_of(parts: &[Sx]) -> Option<&[u8]>
-    ensures { option_map (λ w. w.now) result ≡ first_word (bracketed_list (map sx_view parts.now)) }
+/// The word that stands first in brackets.
+pub fn first_word(parts: &[Sx]) -> Option<&[u8]>
+    ensures { option_map (λ w. w.now) result ≡ behind.first_word (bracketed_list (map sx_view parts.now)) }
 {
     match parts {
         [] => None,
@@ -59,7 +52,7 @@ fn read_boxed<N: NameMeanings>(
     ensures { IfOk result (λ o. option_map (λ b. term_view b.value) o ≡ (plain.read (N.table names.now) (sx_view x.now)).term binders.now) }
 {
     match read_term(alloc, names, binders, x)? {
-        Some(term) => Ok(Some(boxed(alloc, term)?)),
+        Some(term) => Ok(Some(boxed_term(alloc, term)?)),
         None => Ok(None),
     }
 }
@@ -262,7 +255,7 @@ pub fn read_term<N: NameMeanings>(
 {
     match x {
         Sx::Atom(word) => word_term(alloc, names, binders, word),
-        Sx::List(parts) => match first_of(parts) {
+        Sx::List(parts) => match first_word(parts) {
             None => Ok(None),
             Some(word) => match term_head(word) {
                 None => Ok(None),
@@ -365,7 +358,7 @@ pub fn read_loc<N: NameMeanings>(
 {
     match x {
         Sx::Atom(word) => Ok(word_loc(word)),
-        Sx::List(parts) => match first_of(parts) {
+        Sx::List(parts) => match first_word(parts) {
             None => Ok(None),
             Some(word) => match loc_head(word) {
                 None => Ok(None),

@@ -11,10 +11,11 @@ ghost use Rattle.jd_tsorts.specs.Returned.{returns_view};
 use crate::names::NameSorts;
 use crate::returns::{Returns, may_return, may_return_nothing, may_take, returns_of};
 use crate::sorts::{
-    binary_sort, both_one_sort, is_of_integers, is_some_sort, is_value, same_sort, unary_sort,
+    binary_sort, both_one_sort, is_of_integers, is_some_sort, is_value, unary_sort,
 };
 use jd_base::{MethodId, Sort};
 use jd_syntax::{BinaryOp, Code, CodeExpr, CodeStmt};
+use jd_tread::same_sort;
 
 /// The sort of the expression's value; none where it has no value.
 pub fn expr_sort<N: NameSorts>(names: &N, expr: &CodeExpr) -> Option<Sort>
@@ -56,6 +57,32 @@ fn may_join<N: NameSorts>(names: &N, operation: BinaryOp, a: &CodeExpr, b: &Code
         has_sort(names, Sort::Int, a) && has_sort(names, Sort::Int, b)
     } else {
         both_one_sort(expr_sort(names, a), expr_sort(names, b))
+    }
+}
+
+// Whether the expression may be evaluated: where it is no call it has a value.
+fn may_evaluate<N: NameSorts>(names: &N, expr: &CodeExpr) -> bool
+    ensures { result ≡ plain.may_evaluate (N.table names.now) (expr_view expr.now) }
+{
+    match expr {
+        CodeExpr::VirtualCall(_, _, _, _)
+        | CodeExpr::StaticCall(_, _)
+        | CodeExpr::ConstructorCall(_, _, _) => true,
+        CodeExpr::IntLiteral(_)
+        | CodeExpr::BoolLiteral(_)
+        | CodeExpr::NullLiteral
+        | CodeExpr::Variable(_)
+        | CodeExpr::Unary(_, _)
+        | CodeExpr::Binary(_, _, _)
+        | CodeExpr::AndAlso(_, _)
+        | CodeExpr::OrElse(_, _)
+        | CodeExpr::Conditional(_, _, _)
+        | CodeExpr::ReadField(_, _)
+        | CodeExpr::ReadElement(_, _)
+        | CodeExpr::LengthOf(_)
+        | CodeExpr::Cast(_, _)
+        | CodeExpr::InstanceOf(_, _)
+        | CodeExpr::DoThen(_, _) => expr_sort(names, expr).is_some(),
     }
 }
 
@@ -150,7 +177,7 @@ pub fn is_sorted_stmt<N: NameSorts>(names: &N, returns: Returns, stmt: &CodeStmt
             && is_sorted_expr(names, returns, a)
             && is_sorted_expr(names, returns, b)
             && is_sorted_expr(names, returns, c),
-        CodeStmt::Evaluate(a) => is_sorted_expr(names, returns, a),
+        CodeStmt::Evaluate(a) => may_evaluate(names, a) && is_sorted_expr(names, returns, a),
         CodeStmt::If(a, then, other) => has_sort(names, Sort::Bool, a)
             && is_sorted_expr(names, returns, a)
             && is_sorted_code(names, returns, then)

@@ -1,24 +1,11 @@
 //! Sorts and operations.
 
 ghost use Rattle.std.specs.Prelude.{◌≡◌};
-ghost use Rattle.jd_syntax.specs.CodeNames as names;
 ghost use Rattle.jd_tforms.specs.Sorted as plain;
 
 use jd_base::Sort;
 use jd_syntax::{BinaryOp, UnaryOp};
-
-pub(crate) fn same_sort(a: Sort, b: Sort) -> bool
-    ensures { result ≡ names.same_sort a b }
-{
-    match (a, b) {
-        (Sort::Int, Sort::Int) => true,
-        (Sort::Bool, Sort::Bool) => true,
-        (Sort::Ref, Sort::Ref) => true,
-        (Sort::Heap, Sort::Heap) => true,
-        (Sort::Field, Sort::Field) => true,
-        _ => false,
-    }
-}
+use jd_tread::same_sort;
 
 // Whether it is the sort of a value of Java.
 pub(crate) fn is_value(sort: Sort) -> bool
