@@ -12,7 +12,7 @@ use crate::form::{EMPTY, Form, first_of};
 use crate::heading::{Heading, Told, heading_in, told_by};
 use crate::rows::{names_of, row};
 use crate::rules::{form_by, is_blank};
-use crate::short::{keeps_form, tells_nothing};
+use crate::short::{is_quiet, keeps_form, keeps_only, keeps_quiet, tells_nothing};
 use jd_base::NoMemory;
 use jd_grammar::{NodeParts, Nodes, drop_second, put, take_parts, value_of};
 use jd_java_tokens::Lexeme;
@@ -76,6 +76,9 @@ impl<'a> Nodes<Lexeme<'a>, Form> for FormNodes {
             drop_second(stack);
             return Ok(());
         }
+        if keeps_only(row, &*stack) {
+            return Ok(());
+        }
         let parts = take_parts(stack, names_of(production), NO_FORMS);
         put(stack, form_by(row, tokens, parts))
     }
@@ -100,8 +103,11 @@ impl<'a> Nodes<Lexeme<'a>, Told<'a>> for HeadingNodes {
         ensures { OnOk result ((v : Told) × (told_view v ≡ heading_at production (map lexeme_view tokens.now) (map told_view (take (names_of production) (reverse stack.old.items)))) × (reverse stack.new.items ≡ v ∷ drop (names_of production) (reverse stack.old.items))) }
     {
         let row = row(production);
-        if is_blank(row) {
+        if is_quiet(row, 0) {
             return put(stack, Told::Nothing);
+        }
+        if keeps_quiet(row, &*stack) {
+            return Ok(());
         }
         if tells_nothing(row, &*stack) {
             drop_second(stack);

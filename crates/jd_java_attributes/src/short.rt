@@ -1,25 +1,51 @@
-//! Nodes of levels of expressions without an operator of theirs: nothing has to be taken off the stack but a part that is nothing.
+//! Nodes for which nothing has to be taken off the stack but a part that is nothing, as of levels of expressions without an operator
+//! of theirs.
 
 ghost use Rattle.std.specs.Prelude.{◌≡◌, reverse, true};
 ghost use Rattle.jd_java_attributes.specs.declared.form.TheConstants.{EMPTY as NOTHING};
 ghost use Rattle.jd_java_attributes.specs.Folding.{told_view};
 ghost use Rattle.jd_java_attributes.specs.Headings.{bare};
-ghost use Rattle.jd_java_attributes.specs.Short.{IsLevel, IsSettledAlone, TellsNothing};
+ghost use Rattle.jd_java_attributes.specs.Short.{IsLevel, IsQuiet, IsSettledAlone, IsSettledFirst, TellsNothing, TellsNothingFirst};
 
 use crate::form::{EMPTY, Form};
-use crate::heading::Told;
+use crate::heading::{Told, tells_parts};
 use crate::rows::{Row, Rule};
 use crate::rules::is_settled;
 
-// Whether nodes of this row are of a level of expressions.
-#[tactic(auto, using(crate::proofs::Levels::level))]
+// Whether nodes of this row, which have two parts, have the form of their first where it is alone, as of a level of expressions.
+#[tactic(auto, using(crate::proofs::Levels::level, crate::proofs::Levels::list))]
 fn is_level(row: Row) -> bool
-    ensures { result ≡ true → IsLevel row }
+    ensures { result ≡ true → IsLevel row 2 }
 {
     match row {
         (0, 2, Rule::Expression) => true,
+        (0, 2, Rule::Parts) => true,
         _ => false,
     }
+}
+
+// Whether nodes of this row have the form of their only part.
+#[tactic(auto, using(crate::proofs::Levels::only_level, crate::proofs::Levels::only_list))]
+fn is_only(row: Row) -> bool
+    ensures { result ≡ true → IsLevel row 1 }
+{
+    match row {
+        (0, 1, Rule::Expression) => true,
+        (0, 1, Rule::Parts) => true,
+        _ => false,
+    }
+}
+
+/// Whether nodes of this row, which has so many names, tell nothing where their parts do not.
+#[tactic(auto, using(crate::proofs::Levels::quiet))]
+pub(crate) fn is_quiet(row: Row, names: u8) -> bool
+    ensures { result ≡ true → IsQuiet row names }
+{
+    let (_, count, rule) = row;
+    if count != names {
+        return false;
+    }
+    tells_parts(rule)
 }
 
 // Whether it is the form of nothing.
@@ -46,6 +72,17 @@ fn is_settled_alone(stack: &[Form]) -> bool
     is_settled(*first)
 }
 
+// Whether a settled form lies on top.
+#[tactic(auto, using(crate::proofs::Levels::settled_first))]
+fn is_settled_first(stack: &[Form]) -> bool
+    ensures { result ≡ true → IsSettledFirst (reverse stack.now) }
+{
+    let Some((first, _)) = stack.split_last() else {
+        return false;
+    };
+    is_settled(*first)
+}
+
 // Whether it tells nothing.
 fn is_nothing(told: &Told<'_>) -> bool
     ensures { result ≡ true → told_view told.now ≡ bare }
@@ -54,6 +91,17 @@ fn is_nothing(told: &Told<'_>) -> bool
         Told::Nothing => true,
         _ => false,
     }
+}
+
+// Whether the one on top tells nothing.
+#[tactic(auto, using(crate::proofs::Levels::first_tells_nothing))]
+fn first_tells_nothing(stack: &[Told<'_>]) -> bool
+    ensures { result ≡ true → TellsNothingFirst (reverse stack.now) }
+{
+    let Some((first, _)) = stack.split_last() else {
+        return false;
+    };
+    is_nothing(first)
 }
 
 // Whether the two on top tell nothing.
@@ -75,7 +123,7 @@ fn tell_nothing(stack: &[Told<'_>]) -> bool
 
 /// Whether a node of this row has the form of its first part, and its second that of nothing.
 pub(crate) fn keeps_form(row: Row, stack: &[Form]) -> bool
-    ensures level { result ≡ true → IsLevel row }
+    ensures level { result ≡ true → IsLevel row 2 }
     ensures alone { result ≡ true → IsSettledAlone (reverse stack.now) }
 {
     if !is_level(row) {
@@ -84,12 +132,34 @@ pub(crate) fn keeps_form(row: Row, stack: &[Form]) -> bool
     is_settled_alone(stack)
 }
 
+/// Whether a node of this row has the form of its only part.
+pub(crate) fn keeps_only(row: Row, stack: &[Form]) -> bool
+    ensures level { result ≡ true → IsLevel row 1 }
+    ensures first { result ≡ true → IsSettledFirst (reverse stack.now) }
+{
+    if !is_only(row) {
+        return false;
+    }
+    is_settled_first(stack)
+}
+
+/// Whether a node of this row tells nothing, nor does its only part.
+pub(crate) fn keeps_quiet(row: Row, stack: &[Told<'_>]) -> bool
+    ensures quiet { result ≡ true → IsQuiet row 1 }
+    ensures nothing { result ≡ true → TellsNothingFirst (reverse stack.now) }
+{
+    if !is_quiet(row, 1) {
+        return false;
+    }
+    first_tells_nothing(stack)
+}
+
 /// Whether a node of this row tells nothing, nor do its two parts.
 pub(crate) fn tells_nothing(row: Row, stack: &[Told<'_>]) -> bool
-    ensures level { result ≡ true → IsLevel row }
+    ensures quiet { result ≡ true → IsQuiet row 2 }
     ensures nothing { result ≡ true → TellsNothing (reverse stack.now) }
 {
-    if !is_level(row) {
+    if !is_quiet(row, 2) {
         return false;
     }
     tell_nothing(stack)
