@@ -9,7 +9,7 @@ use Rattle.jd_java_attributes.specs.declared.form.TheConstants.{EMPTY}
 use Rattle.jd_java_attributes.specs.declared.heading.Told.{Told}
 use Rattle.jd_java_attributes.specs.declared.rows.Rule.{Rule}
 use Rattle.jd_java_attributes.specs.declared.rows.Rule.TheVariants as rules
-use Rattle.jd_java_attributes.specs.Folding.{IsSettled, form_at, heading_at, told_view}
+use Rattle.jd_java_attributes.specs.Folding.{form_at, heading_at, told_view}
 use Rattle.jd_java_attributes.specs.Headings.{PlainHeading, all_joined, bare, told}
 use Rattle.jd_java_attributes.specs.Judging.{names_of}
 use Rattle.jd_java_attributes.specs.Rules.{made, row_of, with_high}
@@ -38,23 +38,12 @@ quiet row n names tells = record { names = names; quiet = λ ts. tells ts (all_o
 top_of : {V : Type 0} (xs rest : List V) (a : V) → xs ≡ rest ++ a ∷ [] → reverse xs ≡ a ∷ reverse rest
 top_of xs rest a top = ap reverse top ∙ reverse-append rest (a ∷ [])
 
-pub settled_first : (xs rest : List Form) (a : Form) → xs ≡ rest ++ a ∷ [] → IsSettled a → IsSettledFirst (reverse xs)
-settled_first xs rest a top settled = record { first = a; others = reverse rest; is = top_of xs rest a top; settled = settled }
-
 pub first_tells_nothing : (xs rest : List Told) (a : Told) → xs ≡ rest ++ a ∷ [] → told_view a ≡ bare → TellsNothingFirst (reverse xs)
 first_tells_nothing xs rest a top none = record { first = a; others = reverse rest; is = top_of xs rest a top; quiet = none }
 
 -- the two on top of what lies on a stack
 on_top : {V : Type 0} (xs rest more : List V) (a b : V) → xs ≡ rest ++ a ∷ [] → rest ≡ more ++ b ∷ [] → reverse xs ≡ a ∷ b ∷ reverse more
 on_top xs rest more a b top below = ap reverse top ∙ (reverse-append rest (a ∷ []) ∙ ap (λ us. a ∷ us) (ap reverse below ∙ reverse-append more (b ∷ [])))
-
-pub settled_alone : (xs rest more : List Form) (a b : Form) → xs ≡ rest ++ a ∷ [] → rest ≡ more ++ b ∷ [] → b ≡ EMPTY → IsSettled a → IsSettledAlone (reverse xs)
-settled_alone xs rest more a b top below empty settled = record {
-  first = a;
-  others = reverse more;
-  is = on_top xs rest more a b top below ∙ ap (λ x. a ∷ x ∷ reverse more) empty;
-  settled = settled;
-}
 
 pub tells_nothing : (xs rest more : List Told) (a b : Told) → xs ≡ rest ++ a ∷ [] → rest ≡ more ++ b ∷ [] → told_view a ≡ bare → told_view b ≡ bare → TellsNothing (reverse xs)
 tells_nothing xs rest more a b top below first second = record {

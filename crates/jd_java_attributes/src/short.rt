@@ -2,19 +2,16 @@
 //! of theirs.
 
 ghost use Rattle.std.specs.Prelude.{◌≡◌, reverse, true};
-ghost use Rattle.jd_java_attributes.specs.declared.form.TheConstants.{EMPTY as NOTHING};
 ghost use Rattle.jd_java_attributes.specs.Folding.{told_view};
 ghost use Rattle.jd_java_attributes.specs.Headings.{bare};
-ghost use Rattle.jd_java_attributes.specs.Short.{IsLevel, IsQuiet, IsSettledAlone, IsSettledFirst, TellsNothing, TellsNothingFirst};
+ghost use Rattle.jd_java_attributes.specs.Short.{IsLevel, IsQuiet, TellsNothing, TellsNothingFirst};
 
-use crate::form::{EMPTY, Form};
 use crate::heading::{Told, tells_parts};
 use crate::rows::{Row, Rule};
-use crate::rules::is_settled;
 
-// Whether nodes of this row, which have two parts, have the form of their first where it is alone, as of a level of expressions.
+/// Whether nodes of this row, which have two parts, have the form of their first where it is alone, as of a level of expressions.
 #[tactic(auto, using(crate::proofs::Levels::level, crate::proofs::Levels::list))]
-fn is_level(row: Row) -> bool
+pub(crate) fn is_level(row: Row) -> bool
     ensures { result ≡ true → IsLevel row 2 }
 {
     match row {
@@ -24,9 +21,9 @@ fn is_level(row: Row) -> bool
     }
 }
 
-// Whether nodes of this row have the form of their only part.
+/// Whether nodes of this row have the form of their only part.
 #[tactic(auto, using(crate::proofs::Levels::only_level, crate::proofs::Levels::only_list))]
-fn is_only(row: Row) -> bool
+pub(crate) fn is_only(row: Row) -> bool
     ensures { result ≡ true → IsLevel row 1 }
 {
     match row {
@@ -46,41 +43,6 @@ pub(crate) fn is_quiet(row: Row, names: u8) -> bool
         return false;
     }
     tells_parts(rule)
-}
-
-// Whether it is the form of nothing.
-fn is_empty(form: Form) -> bool
-    ensures { result ≡ true → form ≡ NOTHING }
-{
-    form == EMPTY
-}
-
-// Whether a settled form lies on top, and below it that of nothing.
-#[tactic(auto, using(crate::proofs::Levels::settled_alone))]
-fn is_settled_alone(stack: &[Form]) -> bool
-    ensures { result ≡ true → IsSettledAlone (reverse stack.now) }
-{
-    let Some((first, others)) = stack.split_last() else {
-        return false;
-    };
-    let Some((second, _)) = others.split_last() else {
-        return false;
-    };
-    if !is_empty(*second) {
-        return false;
-    }
-    is_settled(*first)
-}
-
-// Whether a settled form lies on top.
-#[tactic(auto, using(crate::proofs::Levels::settled_first))]
-fn is_settled_first(stack: &[Form]) -> bool
-    ensures { result ≡ true → IsSettledFirst (reverse stack.now) }
-{
-    let Some((first, _)) = stack.split_last() else {
-        return false;
-    };
-    is_settled(*first)
 }
 
 // Whether it tells nothing.
@@ -119,28 +81,6 @@ fn tell_nothing(stack: &[Told<'_>]) -> bool
         return false;
     }
     is_nothing(second)
-}
-
-/// Whether a node of this row has the form of its first part, and its second that of nothing.
-pub(crate) fn keeps_form(row: Row, stack: &[Form]) -> bool
-    ensures level { result ≡ true → IsLevel row 2 }
-    ensures alone { result ≡ true → IsSettledAlone (reverse stack.now) }
-{
-    if !is_level(row) {
-        return false;
-    }
-    is_settled_alone(stack)
-}
-
-/// Whether a node of this row has the form of its only part.
-pub(crate) fn keeps_only(row: Row, stack: &[Form]) -> bool
-    ensures level { result ≡ true → IsLevel row 1 }
-    ensures first { result ≡ true → IsSettledFirst (reverse stack.now) }
-{
-    if !is_only(row) {
-        return false;
-    }
-    is_settled_first(stack)
 }
 
 /// Whether a node of this row tells nothing, nor does its only part.
