@@ -1,6 +1,7 @@
 -- What a stack that counts forms of nothing shows.
-use Rattle.std.proofs.Common.{◌≡◌, ◌<◌, ◌≤◌, ◌-◌, ◌+◌, ℕ, zero, suc, cond, nat_lt, List, [], ◌∷◌, ◌++◌, length, map, take, drop, replicate, reverse, refl, sym, ap, ap₂, subst, ◌∙◌, arith, length-append}
-use Rattle.std.proofs.lemmas.List.{reverse-append}
+use Rattle.std.proofs.Common.{◌≡◌, ◌<◌, ◌≤◌, ◌-◌, ◌+◌, ℕ, zero, suc, cond, nat_lt, List, [], ◌∷◌, ◌++◌, length, map, slice_index_or, slice_set, take, drop, replicate, reverse, refl, sym, ap, ap₂, subst, ◌∙◌, arith, length-append}
+use Rattle.std.proofs.Math.Seq.{set-append_seam}
+use Rattle.std.proofs.lemmas.List.{get_or-append-add, reverse-append}
 use Rattle.jd_grammar.specs.Nodes.{Evaluates, IsReadAs, Rooted, all_of, filled, top_or}
 use Rattle.jd_grammar.specs.declared.fold.NodeParts.{NodeParts}
 use Rattle.jd_java_attributes.specs.declared.form.Form.{Form}
@@ -14,7 +15,6 @@ use Rattle.jd_java_attributes.specs.Judging.{attributes_of, names_of}
 use Rattle.jd_java_attributes.proofs.Views.{form_stands}
 use Rattle.jd_java_tokens.specs.Lexemes.{lexeme_view}
 use Rattle.jd_java_tokens.specs.declared.lexeme.Lexeme.{Lexeme}
-use Rattle.jd_grammar.proofs.Folds.{take-here}
 use Rattle.jd_grammar.proofs.Walks.{forest_values}
 
 abbrev pile : Form → ℕ → Pile
@@ -109,14 +109,16 @@ level_shown s p l =
 pub settled_alone : (s : Piles) (p : Pile) → IsLevelTop p s → IsSettledAlone (shown s)
 settled_alone s p l = record { first = p.form; others = replicate p.under EMPTY ++ piled (reverse l.others); is = level_shown s p l; settled = l.settled }
 
-pub one_dropped : (s : Piles) (p : Pile) (w len : ℕ) (rest new : List Pile) → IsLevelTop p s → w ≡ s.waiting → len ≡ length s.piles.items → rest ≡ take (len - 1) s.piles.items → new ≡ rest ++ p ∷ [] → replicate w EMPTY ++ piled (reverse new) ≡ take 1 (shown s) ++ drop 2 (shown s)
-one_dropped s p w len rest new l wait count left put =
+pub one_dropped : (s : Piles) (p t : Pile) (len : ℕ) → IsLevelTop p s → len ≡ length s.piles.items → t ≡ slice_index_or s.piles.items (len - 1) t → replicate s.waiting EMPTY ++ piled (reverse (slice_set s.piles.items (len - 1) (pile t.form p.under))) ≡ take 1 (shown s) ++ drop 2 (shown s)
+one_dropped s p t len l count top =
     let q = pile p.form (p.under + 1) in
     let size : length (l.others ++ q ∷ []) ≡ length l.others + 1 = length-append l.others (q ∷ []) in
     let all : len ≡ length (l.others ++ q ∷ []) = count ∙ ap length l.is in
     let one : len - 1 ≡ length l.others = omega (arith, size, all) in
-    let others : rest ≡ l.others = left ∙ (ap₂ (λ n xs. take n xs) one l.is ∙ take-here l.others (q ∷ [])) in
-    lies w new l.others p (wait ∙ l.none_waits) (put ∙ ap (λ xs. xs ++ p ∷ []) others)
+    let behind : len - 1 ≡ length l.others + 0 = omega (arith, one) in
+    let there : t ≡ q = top ∙ (ap₂ (λ (xs : List Pile) k. slice_index_or xs k t) l.is behind ∙ get_or-append-add l.others (q ∷ []) 0 t) in
+    let put : slice_set s.piles.items (len - 1) (pile t.form p.under) ≡ l.others ++ p ∷ [] = ap₂ (λ (xs : List Pile) k. slice_set xs k (pile t.form p.under)) l.is one ∙ (set-append_seam l.others q [] (pile t.form p.under) ∙ ap (λ (x : Pile). l.others ++ pile x.form p.under ∷ []) there) in
+    lies s.waiting (slice_set s.piles.items (len - 1) (pile t.form p.under)) l.others p l.none_waits put
     ∙ sym (ap (λ (xs : List Form). take 1 xs ++ drop 2 xs) (level_shown s p l))
 
 pub settled_top : (w : ℕ) (items rest : List Pile) (p : Pile) → w ≡ 0 → items ≡ rest ++ p ∷ [] → IsSettled p.form → IsSettledFirst (replicate w EMPTY ++ piled (reverse items))

@@ -135,13 +135,14 @@ pub(crate) fn kept_pile(row: Row, piles: &Piles) -> Option<Pile>
     level_top(piles)
 }
 
-/// Puts the pile on top that has one less of nothing.
+/// Takes one of nothing from below the form on top, so that this pile lies there.
 pub(crate) fn drop_nothing(piles: &mut Piles, pile: Pile)
     requires { IsLevelTop pile piles.old }
     ensures { shown piles.new ≡ take 1 (shown piles.old) ++ drop 2 (shown piles.old) }
 {
-    let _top = piles.piles.pop();
-    piles.piles.push_reserved(pile);
+    if let Some(top) = piles.piles.last_mut() {
+        top.under = pile.under;
+    }
 }
 
 // Whether a settled form lies on top.
