@@ -1,21 +1,14 @@
 -- What trees stand for, where a relation says what a node may stand for; and the same of a preorder.
-use Rattle.std.specs.Prelude.{◌≡◌, ℕ, zero, suc, ◌+◌, List, [], ◌∷◌, Option, Some, None, length, take, drop}
+use Rattle.std.specs.Prelude.{◌≡◌, ℕ, zero, suc, ◌+◌, List, [], ◌∷◌, length, take, drop}
 use Rattle.jd_grammar.specs.declared.fold.NodeParts.{NodeParts}
 use Rattle.jd_grammar.specs.declared.table.Symbol.TheVariants.{Name}
 use Rattle.jd_grammar.specs.Folds.{AritiesFit}
 use Rattle.jd_grammar.specs.Grammars.{Forest, Done, Leaf, Node, yield, preorder, IsForest, Production}
 
-abbrev pub listed : {V : Type 0} → Option V → List V
-listed None = []
-listed (Some v) = v ∷ []
-
--- the values up to the first that is not there
-abbrev pub packed_list : {V : Type 0} → Option V → Option V → Option V → Option V → List V
-packed_list None b c d = []
-packed_list (Some a) None c d = a ∷ []
-packed_list (Some a) (Some b) None d = a ∷ b ∷ []
-packed_list (Some a) (Some b) (Some c) None = a ∷ b ∷ c ∷ []
-packed_list (Some a) (Some b) (Some c) (Some d) = a ∷ b ∷ c ∷ d ∷ []
+-- the first of these, or another where there is none
+abbrev pub top_or : {V : Type 0} → V → List V → V
+top_or other [] = other
+top_or other (v ∷ vs) = v
 
 -- the parts by their places, and what stands for nothing behind the last
 abbrev pub filled : {V : Type 0} → NodeParts V → List V → NodeParts V

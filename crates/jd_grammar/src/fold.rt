@@ -1,5 +1,5 @@
 ghost use Rattle.std.specs.Prelude.{◌≡◌, ◌≤◌, ◌++◌, ◌∷◌, ℕ, List, [], IfOk, OnOk, length, take, drop, reverse, cond};
-ghost use Rattle.jd_grammar.specs.Nodes.{Evaluates, IsRead, IsReadAs, Rooted, StandFor, leaves, listed, packed_list};
+ghost use Rattle.jd_grammar.specs.Nodes.{Evaluates, IsRead, IsReadAs, Rooted, StandFor, leaves};
 ghost use Rattle.jd_grammar.specs.Nodes as plain;
 
 use jd_base::NoMemory;
@@ -34,37 +34,16 @@ pub trait Nodes<T, V: Drop> {
         ensures { OnOk result ((v : V) × stands self.now production tokens.now (take (count self.now production) (reverse stack.old.items)) v × (reverse stack.new.items ≡ v ∷ drop (count self.now production) (reverse stack.old.items))) };
 }
 
-// The value on top, if one is asked for.
-fn popped<V: Drop>(stack: &mut Vec<V>, some: bool) -> Option<V>
-    ensures value { listed result ≡ take (cond some 1 0) (reverse stack.old.items) }
+// Takes the value on top to this place, if one is asked for and there is one.
+fn take_top<V: Drop>(stack: &mut Vec<V>, some: bool, place: &mut V)
+    ensures value { place.new ≡ plain.top_or place.old (take (cond some 1 0) (reverse stack.old.items)) }
     ensures rest { reverse stack.new.items ≡ drop (cond some 1 0) (reverse stack.old.items) }
 {
-    if some { stack.pop() } else { None }
-}
-
-// The values up to the first that is not there, and what stands for nothing at the places behind them.
-fn placed<V: Drop>(
-    first: Option<V>,
-    second: Option<V>,
-    third: Option<V>,
-    fourth: Option<V>,
-    nothing: NodeParts<V>,
-) -> NodeParts<V>
-    ensures { result ≡ plain.filled nothing (packed_list first second third fourth) }
-{
-    let (a, b, c, d) = (nothing.first, nothing.second, nothing.third, nothing.fourth);
-    let (first, second, third, fourth) = match (first, second, third, fourth) {
-        (Some(first), Some(second), Some(third), Some(fourth)) => (first, second, third, fourth),
-        (Some(first), Some(second), Some(third), None) => (first, second, third, d),
-        (Some(first), Some(second), None, _) => (first, second, c, d),
-        (Some(first), None, _, _) => (first, b, c, d),
-        (None, _, _, _) => (a, b, c, d),
-    };
-    NodeParts {
-        first,
-        second,
-        third,
-        fourth,
+    if !some {
+        return;
+    }
+    if let Some(value) = stack.pop() {
+        *place = value;
     }
 }
 
@@ -74,18 +53,22 @@ pub fn take_parts<V: Drop>(stack: &mut Vec<V>, count: u8, nothing: NodeParts<V>)
     ensures parts { result ≡ plain.filled nothing (take count (reverse stack.old.items)) }
     ensures rest { reverse stack.new.items ≡ drop count (reverse stack.old.items) }
 {
-    let first = popped(stack, count > 0);
-    let second = popped(stack, count > 1);
-    let third = popped(stack, count > 2);
-    let fourth = popped(stack, count > 3);
-    placed(first, second, third, fourth, nothing)
+    let mut parts = nothing;
+    take_top(stack, count > 0, &mut parts.first);
+    take_top(stack, count > 1, &mut parts.second);
+    take_top(stack, count > 2, &mut parts.third);
+    take_top(stack, count > 3, &mut parts.fourth);
+    parts
 }
 
 /// Puts a value on top of a stack.
 pub fn put<V: Drop>(stack: &mut Vec<V>, value: V) -> Result<(), NoMemory>
     ensures { OnOk result (reverse stack.new.items ≡ value ∷ reverse stack.old.items) }
 {
-    stack.push(value)?;
+    if stack.len() == stack.capacity() {
+        stack.reserve(1)?;
+    }
+    stack.push_reserved(value);
     Ok(())
 }
 

@@ -15,6 +15,17 @@ pub(crate) struct Machine {
     pub(crate) order: Vec<u16>,
 }
 
+// Puts an item behind others. Room is made apart from it, so that little is left to do where there is some.
+fn add<T: Copy>(items: &mut Vec<T>, item: T) -> Result<(), NoMemory>
+    ensures { OnOk result (items.new.items ≡ items.old.items ++ item ∷ []) }
+{
+    if items.len() == items.capacity() {
+        items.reserve(1)?;
+    }
+    items.push_reserved(item);
+    Ok(())
+}
+
 // Puts symbols onto a stack, the first one last.
 fn push_all(stack: &mut Vec<Symbol>, symbols: &[Symbol]) -> Result<(), NoMemory>
     ensures { OnOk result (stack.new.items ≡ stack.old.items ++ reverse symbols.now) }
@@ -22,7 +33,7 @@ fn push_all(stack: &mut Vec<Symbol>, symbols: &[Symbol]) -> Result<(), NoMemory>
     let mut left = symbols.len();
     while left > 0 {
         left -= 1;
-        stack.push(symbols[left])?;
+        add(stack, symbols[left])?;
     }
     Ok(())
 }
@@ -43,12 +54,14 @@ impl Machine {
         requires table { IsLl1 (plain table.now) }
         ensures { IfOk result (Expands (plain table.now) kind self.old self.new) }
     {
+        // A copy of its own is looked into with fewer steps than one behind a reference.
+        let own = *table;
         while let Some(Symbol::Name(name)) = self.stack.last() {
-            let Some((number, body)) = choose(table, *name, kind) else {
+            let Some((number, body)) = choose(&own, *name, kind) else {
                 return Ok(false);
             };
             self.stack.pop();
-            self.order.push(number)?;
+            add(&mut self.order, number)?;
             push_all(&mut self.stack, body)?;
         }
         Ok(true)

@@ -3,3 +3,4 @@ mod Names
 mod Views
 mod Settled
 mod Levels
+mod Counting

@@ -11,9 +11,9 @@ use Rattle.jd_java_attributes.specs.declared.form.Asked.{Asked}
 use Rattle.jd_java_attributes.specs.declared.form.Asked.TheVariants as asks
 use Rattle.jd_java_attributes.specs.declared.form.TheConstants.{EMPTY}
 use Rattle.jd_java_attributes.specs.declared.rows.Rule.TheVariants as rules
-use Rattle.jd_java_attributes.specs.Folding.{IsSettled, alone}
-use Rattle.jd_java_attributes.specs.Forms.{asked_behind, behind, first_of, in_order, unmet}
-use Rattle.jd_java_attributes.specs.Rules.{all_in_order, closed, high_at, made, only_tokens, with_high}
+use Rattle.jd_java_attributes.specs.Folding.{IsSettled, alone, behind_tokens}
+use Rattle.jd_java_attributes.specs.Forms.{asked_behind, behind, first_of, in_order, inside, unmet}
+use Rattle.jd_java_attributes.specs.Rules.{above, all_in_order, closed, high_at, made, only_tokens, with_high}
 
 abbrev form : ℕ → ℕ → ℕ → ℕ → Kind → Asked → Option ℕ → Option ℕ → Form
 form t h a n k q f g = record { tokens = t; height = h; adds = a; nesting = n; kind = k; asked = q; fault = f; high = g }
@@ -71,26 +71,30 @@ begun f s =
     (ap (λ o. first_of o None) (first_begun f.fault) ∙ first_alone f.fault) (first_begun f.high)
 
 -- before nothing
-ended : (f : Form) → IsSettled f → in_order f EMPTY ≡ f
-ended f s =
-    let within : f.height + 0 ≤ 201 = omega (arith, s.low) in
-    let bound : f.tokens + 0 ≤ 4294967295 = omega (arith, s.counted) in
+ended_low : (f : Form) → f.adds ≡ 0 → f.asked ≡ asks.Nothing → f.height ≤ 201 → f.tokens ≤ 4294967295 → in_order f EMPTY ≡ f
+ended_low f adds_nothing asks_nothing low counted =
+    let within : f.height + 0 ≤ 201 = omega (arith, low) in
+    let bound : f.tokens + 0 ≤ 4294967295 = omega (arith, counted) in
     let t : min (f.tokens + 0) 4294967295 ≡ f.tokens = min-eq_left bound ∙ (let z : f.tokens + 0 ≡ f.tokens = omega arith in z) in
     let h : max (min (f.height + 0) 201) 0 ≡ f.height = max-zero (min (f.height + 0) 201) ∙ (min-eq_left within ∙ (let z : f.height + 0 ≡ f.height = omega arith in z)) in
-    let p : min (f.adds + 0) 201 ≡ f.adds = ap (λ n. min (n + 0) 201) s.adds_nothing ∙ sym s.adds_nothing in
-    let q : asked_behind f.kind f.asked asks.Nothing ≡ f.asked = ap (λ x. asked_behind f.kind x asks.Nothing) s.asks_nothing ∙ (asked_nothing f.kind ∙ sym s.asks_nothing) in
+    let p : min (f.adds + 0) 201 ≡ f.adds = ap (λ n. min (n + 0) 201) adds_nothing ∙ sym adds_nothing in
+    let q : asked_behind f.kind f.asked asks.Nothing ≡ f.asked = ap (λ x. asked_behind f.kind x asks.Nothing) asks_nothing ∙ (asked_nothing f.kind ∙ sym asks_nothing) in
     let g : first_of (first_of f.fault None) (unmet f.kind asks.Nothing) ≡ f.fault = ap₂ first_of (first_alone f.fault) (met_nothing f.kind) ∙ first_alone f.fault in
     same (in_order f EMPTY) f t h p (max-zero f.nesting) refl q g (first_alone f.high)
+
+ended : (f : Form) → IsSettled f → in_order f EMPTY ≡ f
+ended f s = ended_low f s.adds_nothing s.asks_nothing s.low s.counted
 
 not_high : (ts : List PlainLexeme) (f : Form) (o : Option ℕ) → nat_lt 200 f.height ≡ false → nat_lt 200 f.nesting ≡ false → high_at ts f o ≡ o
 not_high ts f (Some at) h n = refl
 not_high ts f None h n = ap₂ (λ (a b : Bool). cond (a || b) (Some (place_of 0 ts)) None) h n
 
+-- before nothing, three times
+all_ended : (f : Form) → in_order f EMPTY ≡ f → in_order (in_order (in_order f EMPTY) EMPTY) EMPTY ≡ f
+all_ended f once = ap (λ x. in_order (in_order x EMPTY) EMPTY) once ∙ (ap (λ x. in_order x EMPTY) once ∙ once)
+
 begun_ended : (f : Form) → IsSettled f → all_in_order (only_tokens 0) (alone f) ≡ f
-begun_ended f s =
-    let once : in_order (in_order (only_tokens 0) f) EMPTY ≡ f = ap (λ x. in_order x EMPTY) (begun f s) ∙ ended f s in
-    let twice : in_order (in_order (in_order (only_tokens 0) f) EMPTY) EMPTY ≡ f = ap (λ x. in_order x EMPTY) once ∙ ended f s in
-    ap (λ x. in_order x EMPTY) twice ∙ ended f s
+begun_ended f s = ap (λ x. in_order (in_order (in_order x EMPTY) EMPTY) EMPTY) (begun f s) ∙ all_ended f (ended f s)
 
 unchanged : (f : Form) → IsSettled f → (ts : List PlainLexeme) → with_high ts f ≡ f
 unchanged f s ts = same (with_high ts f) f refl refl refl refl refl refl refl (s.marked ts)
@@ -120,3 +124,52 @@ before_nothing a within =
     let p : min (a.adds + 0) 201 ≡ min a.adds 201 = ap (λ n. min n 201) (let z : a.adds + 0 ≡ a.adds = omega arith in z) in
     let g : first_of (first_of a.fault None) (unmet a.kind asks.Nothing) ≡ a.fault = ap₂ first_of (first_alone a.fault) (met_nothing a.kind) ∙ first_alone a.fault in
     sym (same (in_order a EMPTY) (record a { height = min a.height 201; adds = min a.adds 201; asked = asked_behind a.kind a.asked asks.Nothing }) t h p (max-zero a.nesting) refl refl g (first_alone a.high))
+
+-- ---- behind tokens
+
+begun_behind : (n : ℕ) (f : Form) → IsSettled f → in_order (only_tokens n) f ≡ behind_tokens n f
+begun_behind n f s =
+    let p : min (0 + f.adds) 201 ≡ f.adds = ap (λ m. min (0 + m) 201) s.adds_nothing ∙ sym s.adds_nothing in
+    let h : max (min (0 + f.adds) 201) f.height ≡ f.height = ap (λ m. max (min (0 + m) 201) f.height) s.adds_nothing ∙ zero-max f.height in
+    same (in_order (only_tokens n) f) (behind_tokens n f) refl h p (zero-max f.nesting) (behind_nothing f.kind) refl
+    (ap (λ o. first_of o None) (first_begun f.fault) ∙ first_alone f.fault) (first_begun f.high)
+
+high_same : (ts : List PlainLexeme) (n : ℕ) (f : Form) (o : Option ℕ) → high_at ts (behind_tokens n f) o ≡ high_at ts f o
+high_same ts n f (Some at) = refl
+high_same ts n f None = refl
+
+behind_settled : (n : ℕ) (f : Form) → IsSettled f → IsSettled (behind_tokens n f)
+behind_settled n f s =
+    let bound : min (n + f.tokens) 4294967295 ≤ 4294967295 = omega arith in
+    record {
+      adds_nothing = s.adds_nothing;
+      asks_nothing = s.asks_nothing;
+      low = s.low;
+      marked = λ ts. high_same ts n f f.high ∙ s.marked ts;
+      counted = bound;
+    }
+
+behind_ended : (n : ℕ) (f : Form) → IsSettled f → all_in_order (only_tokens n) (alone f) ≡ behind_tokens n f
+behind_ended n f s =
+    ap (λ x. in_order (in_order (in_order x EMPTY) EMPTY) EMPTY) (begun_behind n f s)
+    ∙ all_ended (behind_tokens n f) (ended (behind_tokens n f) (behind_settled n f s))
+
+-- where both stand in order
+pub stays_whole_behind : (n : ℕ) (f : Form) → IsSettled f → (ts : List PlainLexeme) → with_high ts (made rules.Parts n ts (alone f)) ≡ behind_tokens n f
+stays_whole_behind n f s ts = ap (with_high ts) (behind_ended n f s) ∙ unchanged (behind_tokens n f) (behind_settled n f s) ts
+
+-- an expression
+pub stays_behind : (n : ℕ) (f : Form) → IsSettled f → (ts : List PlainLexeme) → with_high ts (made rules.Expression n ts (alone f)) ≡ behind_tokens n f
+stays_behind n f s ts =
+    let g = behind_tokens n f in
+    let shut : closed g ≡ g = same (closed g) g refl refl (sym s.adds_nothing) refl refl (sym s.asks_nothing) refl refl in
+    ap (λ x. with_high ts (closed x)) (behind_ended n f s) ∙ (ap (with_high ts) shut ∙ unchanged g (behind_settled n f s) ts)
+
+-- an expression in parentheses
+pub encloses : (f : Form) → IsSettled f → (ts : List PlainLexeme) (n : ℕ) → with_high ts (made rules.Parenthesized n ts (alone f)) ≡ with_high ts (above (inside f.kind) (behind_tokens n f))
+encloses f s ts n =
+    let g = above (inside f.kind) (behind_tokens n f) in
+    let low : min (f.height + 1) 201 ≤ 201 = omega arith in
+    let once : in_order g EMPTY ≡ g = ended_low g refl refl low (behind_settled n f s).counted in
+    ap (λ x. with_high ts (closed (in_order (in_order (in_order (in_order (above (inside f.kind) x) EMPTY) EMPTY) EMPTY) EMPTY))) (begun_behind n f s)
+    ∙ ap (λ x. with_high ts (closed x)) (ap (λ x. in_order (in_order (in_order x EMPTY) EMPTY) EMPTY) once ∙ all_ended g once)

@@ -18,6 +18,7 @@ use Rattle.jd_java_attributes.specs.Folding.{IsBlank, form_at, heading_at, told_
 use Rattle.jd_java_attributes.specs.Headings.{PlainHeading, bare, heading_view, told}
 use Rattle.jd_java_attributes.specs.Judging.{PlainAttributes, attributes, attributes_of, first_of_all, names_of, nothing, plain_forms, plain_headings}
 use Rattle.jd_java_attributes.specs.Rules.{made, row_of, with_high}
+use Rattle.jd_java_attributes.specs.Short.{IsQuiet}
 
 abbrev Row : Type 0
 Row = ℕ × ℕ × Rule
@@ -111,8 +112,8 @@ blank p ts stack row of is =
     let same : form_at p ts (take (names_of p) stack) ≡ EMPTY = ap₂ (λ (r : Row) k. with_high ts (made r.2 r.0 ts (filled (all_of EMPTY) (take k stack)))) (sym of) none ∙ is.empty ts in
     (sym same, ap (λ k. drop k stack) none)
 
-pub blank_told : (p : ℕ) (ts : List PlainLexeme) (stack : List Told) (row : Row) (v : Told) → row ≡ row_of p → IsBlank row → told_view v ≡ bare → (told_view v ≡ heading_at p ts (map told_view (take (names_of p) stack))) × (drop (names_of p) stack ≡ stack)
+pub blank_told : (p : ℕ) (ts : List PlainLexeme) (stack : List Told) (row : Row) (v : Told) → row ≡ row_of p → IsQuiet row 0 → told_view v ≡ bare → (told_view v ≡ heading_at p ts (map told_view (take (names_of p) stack))) × (drop (names_of p) stack ≡ stack)
 blank_told p ts stack row v of is e =
-    let none : names_of p ≡ 0 = sym (ap (λ (r : Row). r.1) of) ∙ is.nameless in
+    let none : names_of p ≡ 0 = sym (ap (λ (r : Row). r.1) of) ∙ is.names in
     let same : heading_at p ts (map told_view (take (names_of p) stack)) ≡ bare = ap₂ (λ (r : Row) k. told r.2 ts (filled (all_of bare) (map told_view (take k stack)))) (sym of) none ∙ is.quiet ts in
     (e ∙ sym same, ap (λ k. drop k stack) none)

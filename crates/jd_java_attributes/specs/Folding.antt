@@ -1,5 +1,5 @@
 -- The two parts of the attributes, each by itself.
-use Rattle.std.specs.Prelude.{◌≡◌, ◌≤◌, ℕ, List, []}
+use Rattle.std.specs.Prelude.{◌≡◌, ◌≤◌, ℕ, List}
 use Rattle.jd_grammar.specs.Nodes.{all_of, filled}
 use Rattle.jd_grammar.specs.declared.fold.NodeParts.{NodeParts}
 use Rattle.jd_java_tokens.specs.Contents.{PlainLexeme}
@@ -9,6 +9,7 @@ use Rattle.jd_java_attributes.specs.declared.form.TheConstants.{EMPTY}
 use Rattle.jd_java_attributes.specs.declared.heading.Told.{Told}
 use Rattle.jd_java_attributes.specs.declared.heading.Told.TheVariants as tells
 use Rattle.jd_java_attributes.specs.declared.rows.Rule.{Rule}
+use Rattle.jd_java_attributes.specs.Forms.{tokens_of_both}
 use Rattle.jd_java_attributes.specs.Rules.{row_of, high_at, made, with_high}
 use Rattle.jd_java_attributes.specs.Headings.{PlainHeading, bare, told, heading_view}
 
@@ -16,15 +17,18 @@ use Rattle.jd_java_attributes.specs.Headings.{PlainHeading, bare, told, heading_
 abbrev pub form_at : ℕ → List PlainLexeme → List Form → Form
 form_at p ts forms = with_high ts (made (row_of p).2 (row_of p).0 ts (filled (all_of EMPTY) forms))
 
--- a production without tokens and names, whose nodes have the form of nothing and tell nothing
+-- a production without tokens and names, whose nodes have the form of nothing
 pub record IsBlank (row : ℕ × ℕ × Rule) : Type 0 where
   pub nameless : row.1 ≡ 0
   pub empty : (ts : List PlainLexeme) → with_high ts (made row.2 row.0 ts (all_of EMPTY)) ≡ EMPTY
-  pub quiet : (ts : List PlainLexeme) → told row.2 ts (all_of bare) ≡ bare
 
 -- nothing behind the first part
 abbrev pub alone : Form → NodeParts Form
 alone f = record (all_of EMPTY) { first = f }
+
+-- the same behind so many tokens
+abbrev pub behind_tokens : ℕ → Form → Form
+behind_tokens n f = record f { tokens = tokens_of_both n f.tokens }
 
 -- an expression with nothing behind it has the form of its part where that is so
 pub record IsSettled (f : Form) : Type 0 where

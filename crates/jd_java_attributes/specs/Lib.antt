@@ -5,3 +5,4 @@ pub mod Judging
 pub mod Laws
 pub mod Folding
 pub mod Short
+pub mod Counted

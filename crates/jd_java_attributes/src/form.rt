@@ -79,7 +79,8 @@ pub(crate) fn up(height: u16) -> u16
     plus(height, 1)
 }
 
-fn tokens_of_both(a: u32, b: u32) -> u32
+/// How many tokens two things have together.
+pub(crate) fn tokens_of_both(a: u32, b: u32) -> u32
     ensures { result ≡ plain.tokens_of_both a b }
 {
     a.saturating_add(b)

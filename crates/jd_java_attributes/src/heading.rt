@@ -292,8 +292,8 @@ fn are_quiet(parts: &NodeParts<Told<'_>>) -> bool
     is_quiet(&parts.fourth)
 }
 
-// Whether a node of this rule tells what its parts tell together.
-fn tells_parts(rule: Rule) -> bool
+/// Whether a node of this rule tells what its parts tell together.
+pub(crate) fn tells_parts(rule: Rule) -> bool
     ensures { result ≡ true → (ts : List PlainLexeme) (parts : NodeParts PlainHeading) → plain.told rule ts parts ≡ plain.all_joined parts }
 {
     match rule {

@@ -6,6 +6,7 @@ mod form;
 mod heading;
 mod laws;
 mod nodes;
+mod piles;
 mod rows;
 mod rules;
 mod short;

@@ -1,12 +1,16 @@
 //! What a node's rule makes of the attributes of its parts.
 
-ghost use Rattle.std.specs.Prelude.{◌≡◌, List, map, true};
+ghost use Rattle.std.specs.Prelude.{◌≡◌, ℕ, List, map, true};
 ghost use Rattle.jd_java_tokens.specs.Lexemes.{lexeme_view};
 ghost use Rattle.jd_java_tokens.specs.Contents.{PlainLexeme};
+ghost use Rattle.jd_java_attributes.specs.Folding as folding;
 ghost use Rattle.jd_java_attributes.specs.Folding.{IsBlank, IsSettled, alone};
+ghost use Rattle.jd_java_attributes.specs.Forms.{inside as inside_of};
 ghost use Rattle.jd_java_attributes.specs.Rules as plain;
 
-use crate::form::{Asked, EMPTY, Form, Kind, first_of, in_order, inside, is_target, up};
+use crate::form::{
+    Asked, EMPTY, Form, Kind, first_of, in_order, inside, is_target, tokens_of_both, up,
+};
 use crate::rows::{Row, Rule};
 use jd_grammar::NodeParts;
 use jd_java_tokens::{Lexeme, place_of};
@@ -280,14 +284,11 @@ pub(crate) fn is_settled(form: Form) -> bool
     form.asked == Asked::Nothing
 }
 
-// Whether a node's form is that of its first part, as of a level of expressions without an operator of that level.
-#[tactic(auto, using(crate::proofs::Settled::stays, crate::proofs::Settled::stays_whole))]
+// Whether a node's form is that of its first part behind its tokens, as of a level of expressions without an operator of that level.
+#[tactic(auto, using(crate::proofs::Settled::stays_behind, crate::proofs::Settled::stays_whole_behind))]
 fn is_first(rule: Rule, count: u8, parts: NodeParts<Form>) -> bool
-    ensures { result ≡ true → (ts : List PlainLexeme) → plain.with_high ts (plain.made rule count ts parts) ≡ parts.first }
+    ensures { result ≡ true → (ts : List PlainLexeme) → plain.with_high ts (plain.made rule count ts parts) ≡ folding.behind_tokens count parts.first }
 {
-    if count != 0 {
-        return false;
-    }
     if !is_alone(parts) {
         return false;
     }
@@ -297,6 +298,43 @@ fn is_first(rule: Rule, count: u8, parts: NodeParts<Form>) -> bool
     match rule {
         Rule::Expression | Rule::Parts => true,
         _ => false,
+    }
+}
+
+// Whether a node is an operand of its first part in parentheses, behind which nothing stands.
+#[tactic(auto, using(crate::proofs::Settled::encloses))]
+fn is_enclosed(rule: Rule, parts: NodeParts<Form>) -> bool
+    ensures { result ≡ true → (ts : List PlainLexeme) (n : ℕ) → plain.with_high ts (plain.made rule n ts parts) ≡ plain.with_high ts (plain.above (inside_of parts.first.kind) (folding.behind_tokens n parts.first)) }
+{
+    if !is_alone(parts) {
+        return false;
+    }
+    if !is_settled(parts.first) {
+        return false;
+    }
+    match rule {
+        Rule::Parenthesized => true,
+        _ => false,
+    }
+}
+
+fn behind_tokens(count: u8, form: Form) -> Form
+    ensures { result ≡ folding.behind_tokens count form }
+{
+    Form {
+        tokens: tokens_of_both(count as u32, form.tokens),
+        ..form
+    }
+}
+
+// In parentheses, behind so many tokens.
+fn enclosed(count: u8, tokens: &[Lexeme<'_>], form: Form) -> Form
+    ensures { result ≡ plain.with_high (map lexeme_view tokens.now) (plain.above (inside_of form.kind) (folding.behind_tokens count form)) }
+{
+    let form = above(inside(form.kind), behind_tokens(count, form));
+    Form {
+        high: high_at(tokens, form),
+        ..form
     }
 }
 
@@ -316,7 +354,10 @@ pub(crate) fn form_by(row: Row, tokens: &[Lexeme<'_>], parts: NodeParts<Form>) -
 {
     let (count, _, rule) = row;
     if is_first(rule, count, parts) {
-        return parts.first;
+        return behind_tokens(count, parts.first);
+    }
+    if is_enclosed(rule, parts) {
+        return enclosed(count, tokens, parts.first);
     }
     form_of(rule, count, tokens, parts)
 }

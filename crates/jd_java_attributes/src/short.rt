@@ -1,49 +1,48 @@
-//! Nodes of levels of expressions without an operator of theirs: nothing has to be taken off the stack but a part that is nothing.
+//! Nodes for which nothing has to be taken off the stack but a part that is nothing, as of levels of expressions without an operator
+//! of theirs.
 
 ghost use Rattle.std.specs.Prelude.{◌≡◌, reverse, true};
-ghost use Rattle.jd_java_attributes.specs.declared.form.TheConstants.{EMPTY as NOTHING};
 ghost use Rattle.jd_java_attributes.specs.Folding.{told_view};
 ghost use Rattle.jd_java_attributes.specs.Headings.{bare};
-ghost use Rattle.jd_java_attributes.specs.Short.{IsLevel, IsSettledAlone, TellsNothing};
+ghost use Rattle.jd_java_attributes.specs.Short.{IsLevel, IsQuiet, TellsNothing, TellsNothingFirst};
 
-use crate::form::{EMPTY, Form};
-use crate::heading::Told;
+use crate::heading::{Told, tells_parts};
 use crate::rows::{Row, Rule};
-use crate::rules::is_settled;
 
-// Whether nodes of this row are of a level of expressions.
-#[tactic(auto, using(crate::proofs::Levels::level))]
-fn is_level(row: Row) -> bool
-    ensures { result ≡ true → IsLevel row }
+/// Whether nodes of this row, which have two parts, have the form of their first where it is alone, as of a level of expressions.
+#[tactic(auto, using(crate::proofs::Levels::level, crate::proofs::Levels::list))]
+pub(crate) fn is_level(row: Row) -> bool
+    ensures { result ≡ true → IsLevel row 2 }
 {
     match row {
         (0, 2, Rule::Expression) => true,
+        (0, 2, Rule::Parts) => true,
         _ => false,
     }
 }
 
-// Whether it is the form of nothing.
-fn is_empty(form: Form) -> bool
-    ensures { result ≡ true → form ≡ NOTHING }
+/// Whether nodes of this row have the form of their only part.
+#[tactic(auto, using(crate::proofs::Levels::only_level, crate::proofs::Levels::only_list))]
+pub(crate) fn is_only(row: Row) -> bool
+    ensures { result ≡ true → IsLevel row 1 }
 {
-    form == EMPTY
+    match row {
+        (0, 1, Rule::Expression) => true,
+        (0, 1, Rule::Parts) => true,
+        _ => false,
+    }
 }
 
-// Whether a settled form lies on top, and below it that of nothing.
-#[tactic(auto, using(crate::proofs::Levels::settled_alone))]
-fn is_settled_alone(stack: &[Form]) -> bool
-    ensures { result ≡ true → IsSettledAlone (reverse stack.now) }
+/// Whether nodes of this row, which has so many names, tell nothing where their parts do not.
+#[tactic(auto, using(crate::proofs::Levels::quiet))]
+pub(crate) fn is_quiet(row: Row, names: u8) -> bool
+    ensures { result ≡ true → IsQuiet row names }
 {
-    let Some((first, others)) = stack.split_last() else {
-        return false;
-    };
-    let Some((second, _)) = others.split_last() else {
-        return false;
-    };
-    if !is_empty(*second) {
+    let (_, count, rule) = row;
+    if count != names {
         return false;
     }
-    is_settled(*first)
+    tells_parts(rule)
 }
 
 // Whether it tells nothing.
@@ -54,6 +53,17 @@ fn is_nothing(told: &Told<'_>) -> bool
         Told::Nothing => true,
         _ => false,
     }
+}
+
+// Whether the one on top tells nothing.
+#[tactic(auto, using(crate::proofs::Levels::first_tells_nothing))]
+fn first_tells_nothing(stack: &[Told<'_>]) -> bool
+    ensures { result ≡ true → TellsNothingFirst (reverse stack.now) }
+{
+    let Some((first, _)) = stack.split_last() else {
+        return false;
+    };
+    is_nothing(first)
 }
 
 // Whether the two on top tell nothing.
@@ -73,23 +83,23 @@ fn tell_nothing(stack: &[Told<'_>]) -> bool
     is_nothing(second)
 }
 
-/// Whether a node of this row has the form of its first part, and its second that of nothing.
-pub(crate) fn keeps_form(row: Row, stack: &[Form]) -> bool
-    ensures level { result ≡ true → IsLevel row }
-    ensures alone { result ≡ true → IsSettledAlone (reverse stack.now) }
+/// Whether a node of this row tells nothing, nor does its only part.
+pub(crate) fn keeps_quiet(row: Row, stack: &[Told<'_>]) -> bool
+    ensures quiet { result ≡ true → IsQuiet row 1 }
+    ensures nothing { result ≡ true → TellsNothingFirst (reverse stack.now) }
 {
-    if !is_level(row) {
+    if !is_quiet(row, 1) {
         return false;
     }
-    is_settled_alone(stack)
+    first_tells_nothing(stack)
 }
 
 /// Whether a node of this row tells nothing, nor do its two parts.
 pub(crate) fn tells_nothing(row: Row, stack: &[Told<'_>]) -> bool
-    ensures level { result ≡ true → IsLevel row }
+    ensures quiet { result ≡ true → IsQuiet row 2 }
     ensures nothing { result ≡ true → TellsNothing (reverse stack.now) }
 {
-    if !is_level(row) {
+    if !is_quiet(row, 2) {
         return false;
     }
     tell_nothing(stack)

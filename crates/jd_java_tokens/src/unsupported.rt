@@ -1,4 +1,4 @@
-ghost use Rattle.std.specs.Prelude.{◌≡◌, ◌<◌, length, map, IfSome};
+ghost use Rattle.std.specs.Prelude.{◌≡◌, ◌<◌, ◌∷◌, [], false, length, map, true, IfSome};
 ghost use Rattle.std.specs.List.{position_from};
 ghost use Rattle.jd_lex.specs.View.{kind_view, token_view, tokens_view};
 ghost use Rattle.jd_java_tokens.specs.Unsupported as plain;
@@ -42,13 +42,55 @@ fn is_listed(table: &[&[u8]], text: &[u8]) -> bool
     false
 }
 
+// Whether it is a byte that stands as a sign in most files.
+fn is_usual_byte(byte: u8) -> bool
+    ensures { result ≡ true → plain.is_listed plain.unsupported_signs (byte ∷ []) ≡ false }
+{
+    match byte {
+        b'('
+        | b')'
+        | b'['
+        | b']'
+        | b'.'
+        | b','
+        | b';'
+        | b'{'
+        | b'}'
+        | b'='
+        | b'<'
+        | b'+'
+        | b'-'
+        | b'*' => true,
+        _ => false,
+    }
+}
+
+// Whether it is such a byte alone.
+fn is_usual_sign(text: &[u8]) -> bool
+    ensures { result ≡ true → plain.is_listed plain.unsupported_signs text.now ≡ false }
+{
+    match text {
+        [byte] => is_usual_byte(*byte),
+        _ => false,
+    }
+}
+
+fn is_unsupported_sign(text: &[u8]) -> bool
+    ensures { result ≡ plain.is_listed plain.unsupported_signs text.now }
+{
+    if is_usual_sign(text) {
+        return false;
+    }
+    is_listed(&UNSUPPORTED_SIGNS, text)
+}
+
 fn is_unsupported_kind(kind: &TokenKind) -> bool
     ensures { result ≡ plain.is_unsupported_kind (kind_view kind.now) }
 {
     match kind {
         TokenKind::Word(text) => is_listed(&UNSUPPORTED_WORDS, text),
         TokenKind::Number(_) => false,
-        TokenKind::Sign(text) => is_listed(&UNSUPPORTED_SIGNS, text),
+        TokenKind::Sign(text) => is_unsupported_sign(text),
     }
 }
 

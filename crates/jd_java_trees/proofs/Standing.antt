@@ -21,7 +21,7 @@ use Rattle.jd_java_values.specs.Views.{Gives, backwards, parts_view, suffix_view
 use Rattle.jd_java_values.specs.declared.values.Suffix.{Suffix}
 use Rattle.jd_java_values.specs.declared.values.Value.{Value}
 use Rattle.jd_java_trees.specs.Meaning.{action_of, first_value, meaning_by, unit_by, unit_of, value_of_node}
-use Rattle.jd_java_trees.specs.Short.{IsBlank, IsOperandAlone, KeepsFirst}
+use Rattle.jd_java_trees.specs.Short.{IsBlank, IsOperandAlone, KeepsFirst, KeepsOnly}
 use Rattle.jd_java_trees.specs.declared.actions.Action.{Action}
 use Rattle.jd_java_trees.specs.declared.actions.Action.TheVariants as code
 
@@ -87,3 +87,20 @@ kept p ts stack after k e =
     let left : take 1 stack ++ drop 2 stack ≡ k.first ∷ k.others = ap (λ (xs : List Value). take 1 xs ++ drop 2 xs) k.is in
     let rest : k.first ∷ k.others ≡ k.first ∷ drop (names_of p) stack = sym (ap₂ (λ n (xs : List Value). k.first ∷ drop n xs) k.names k.is) in
     (k.first, sym same, e ∙ (left ∙ rest))
+
+-- ---- an only part
+
+pub only : (p n : ℕ) (action : Action) (xs rest : List Value) (a : Value) → n ≡ names_of p → n ≡ 1 → xs ≡ rest ++ a ∷ [] → action ≡ action_of p → action ≡ code.Expression actions.First → KeepsOnly p (reverse xs)
+only p n action xs rest a count one top of is = record {
+  names = sym count ∙ one;
+  first = a;
+  others = reverse rest;
+  is = ap reverse top ∙ reverse-append rest (a ∷ []);
+  stands = λ ts. ap (λ (b : Action). meaning_by b ts (filled (all_of Nothing) (value_view a ∷ []))) (sym of ∙ is);
+}
+
+pub only_kept : (p : ℕ) (ts : List PlainLexeme) (stack : List Value) → KeepsOnly p stack → (v : Value) × (value_view v ≡ value_of_node p ts (map value_view (take (names_of p) stack))) × (stack ≡ v ∷ drop (names_of p) stack)
+only_kept p ts stack k =
+    let same : value_of_node p ts (map value_view (take (names_of p) stack)) ≡ value_view k.first = ap₂ (λ n (xs : List Value). value_of_node p ts (map value_view (take n xs))) k.names k.is ∙ k.stands ts in
+    let rest : k.first ∷ k.others ≡ k.first ∷ drop (names_of p) stack = sym (ap₂ (λ n (xs : List Value). k.first ∷ drop n xs) k.names k.is) in
+    (k.first, sym same, k.is ∙ rest)

@@ -30,3 +30,11 @@ pub record KeepsFirst (p : ℕ) (stack : List Value) : Type 0 where
   pub others : List Value
   pub is : stack ≡ first ∷ second ∷ others
   pub stands : (ts : List PlainLexeme) → value_of_node p ts (value_view first ∷ value_view second ∷ []) ≡ value_view first
+
+-- one with one name whose node stands for what its part does
+pub record KeepsOnly (p : ℕ) (stack : List Value) : Type 0 where
+  pub names : names_of p ≡ 1
+  pub first : Value
+  pub others : List Value
+  pub is : stack ≡ first ∷ others
+  pub stands : (ts : List PlainLexeme) → value_of_node p ts (value_view first ∷ []) ≡ value_view first

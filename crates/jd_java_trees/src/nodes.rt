@@ -10,7 +10,7 @@ ghost use Rattle.jd_java_trees.specs.Meaning.{meaning_by, unit_by, unit_of, valu
 ghost use Rattle.jd_syntax.specs.JavaTrees.{unit_view};
 
 use crate::actions::{Action, action_at};
-use crate::short::{is_blank, keeps_first};
+use crate::short::{is_blank, keeps_first, keeps_only};
 use jd_base::NoMemory;
 use jd_grammar::{NodeParts, Nodes, drop_second, put, take_parts, value_of};
 use jd_java_attributes::names_of;
@@ -85,6 +85,9 @@ impl<'a> Nodes<Lexeme<'a>, Value> for TreeNodes {
         }
         if keeps_first(production, &*stack) {
             drop_second(stack);
+            return Ok(());
+        }
+        if keeps_only(production, &*stack) {
             return Ok(());
         }
         let value = made(alloc, production, tokens, stack)?;

@@ -1,12 +1,12 @@
 //! Nodes for which nothing has to be taken off the stack: those that say that nothing stands behind an operand, and operands behind
-//! which nothing stands.
+//! which nothing stands, and those that stand for what their only part does.
 
 ghost use Rattle.std.specs.Prelude.{◌≡◌, List, [], reverse, true};
 ghost use Rattle.jd_grammar.specs.Nodes.{all_of};
 ghost use Rattle.jd_java_expressions.specs.declared.action.Action.TheVariants as actions;
 ghost use Rattle.jd_java_tokens.specs.Contents.{PlainLexeme};
 ghost use Rattle.jd_java_trees.specs.Meaning.{meaning_by};
-ghost use Rattle.jd_java_trees.specs.Short.{IsBlank, IsOperandAlone, KeepsFirst};
+ghost use Rattle.jd_java_trees.specs.Short.{IsBlank, IsOperandAlone, KeepsFirst, KeepsOnly};
 ghost use Rattle.jd_java_trees.specs.declared.actions.Action.TheVariants as code;
 ghost use Rattle.jd_java_values.specs.Parts.{expression_of, suffixes_of};
 ghost use Rattle.jd_java_values.specs.Values.{Expression, Nothing, Suffixes};
@@ -99,4 +99,28 @@ pub(crate) fn keeps_first(production: u16, stack: &[Value]) -> bool
         return false;
     }
     is_operand_alone(stack)
+}
+
+// Whether nodes of an action stand for what their first part does.
+fn is_first(action: Action) -> bool
+    ensures { result ≡ true → action ≡ code.Expression actions.First }
+{
+    match action {
+        Action::Expression(expression::First) => true,
+        _ => false,
+    }
+}
+
+/// Whether a node stands for what its only part does.
+#[tactic(auto, using(crate::proofs::Standing::only))]
+pub(crate) fn keeps_only(production: u16, stack: &[Value]) -> bool
+    ensures { result ≡ true → KeepsOnly production (reverse stack.now) }
+{
+    if names_of(production) != 1 {
+        return false;
+    }
+    let Some((_first, _others)) = stack.split_last() else {
+        return false;
+    };
+    is_first(action_at(production))
 }

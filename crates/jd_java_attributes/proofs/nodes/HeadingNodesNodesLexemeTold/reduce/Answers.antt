@@ -2,9 +2,9 @@ use Rattle.std.proofs.Common.{List, map, refl, ap, subst, ◌∷◌, ◌∙◌}
 use Rattle.std.specs.Prelude.{reverse}
 use Rattle.std.proofs.lemmas.Result.{on_ok_weaker}
 use Rattle.jd_java_tokens.specs.Lexemes.{lexeme_view}
-use Rattle.jd_java_attributes.specs.Short.{TellsNothing}
+use Rattle.jd_java_attributes.specs.Short.{TellsNothing, TellsNothingFirst}
 use Rattle.jd_java_attributes.specs.declared.heading.Told.{Told}
-use Rattle.jd_java_attributes.proofs.Levels.{telling_kept}
+use Rattle.jd_java_attributes.proofs.Levels.{quiet_kept, telling_kept}
 use Rattle.jd_java_attributes.proofs.Views.{drop_as, heading_of_parts}
 use Rattle.jd_java_attributes.proofs.nodes.HeadingNodesNodesLexemeTold.reduce.Goals as goal
 
@@ -16,4 +16,8 @@ returns c =
 
 pub returns-then-tells_nothing : goal.returns-then-tells_nothing
 returns-then-tells_nothing c =
-    telling_kept c.args.production (map lexeme_view c.args.tokens.now) (reverse c.args.stack.now.items) _ c.row-row.result c.row-row.ensures (c.tells_nothing.ensures.level c.if-tells_nothing.true) (subst (λ (xs : List Told). TellsNothing (reverse xs)) c.deref.ensures.value (c.tells_nothing.ensures.nothing c.if-tells_nothing.true)) c.drop_second.ensures
+    telling_kept c.args.production (map lexeme_view c.args.tokens.now) (reverse c.args.stack.now.items) _ c.row-row.result c.row-row.ensures (c.tells_nothing.ensures.quiet c.if-tells_nothing.true) (subst (λ (xs : List Told). TellsNothing (reverse xs)) c.deref-2.ensures.value (c.tells_nothing.ensures.nothing c.if-tells_nothing.true)) c.drop_second.ensures
+
+pub returns-then-keeps_quiet : goal.returns-then-keeps_quiet
+returns-then-keeps_quiet c =
+    quiet_kept c.args.production (map lexeme_view c.args.tokens.now) (reverse c.args.stack.now.items) _ c.row-row.ensures (c.keeps_quiet.ensures.quiet c.if-keeps_quiet.true) (subst (λ (xs : List Told). TellsNothingFirst (reverse xs)) c.deref.ensures.value (c.keeps_quiet.ensures.nothing c.if-keeps_quiet.true))

@@ -6,8 +6,8 @@ use Rattle.jd_java_values.specs.Values.{Suffixes}
 use Rattle.jd_java_values.specs.Views.{suffix_view}
 use Rattle.jd_java_values.specs.declared.values.Suffix.{Suffix}
 use Rattle.jd_java_values.specs.declared.values.Value.{Value}
-use Rattle.jd_java_trees.specs.Short.{KeepsFirst}
-use Rattle.jd_java_trees.proofs.Standing.{blank_put, kept}
+use Rattle.jd_java_trees.specs.Short.{KeepsFirst, KeepsOnly}
+use Rattle.jd_java_trees.proofs.Standing.{blank_put, kept, only_kept}
 use Rattle.jd_java_trees.proofs.nodes.TreeNodesNodesLexemeValue.reduce.Goals as goal
 
 pub returns-then-is_blank : goal.returns-then-is_blank
@@ -17,3 +17,7 @@ returns-then-is_blank c =
 pub returns-then-keeps_first : goal.returns-then-keeps_first
 returns-then-keeps_first c =
     kept c.args.production (map lexeme_view c.args.tokens.now) (reverse c.args.stack.now.items) _ (subst (λ (xs : List Value). KeepsFirst c.args.production (reverse xs)) c.deref.ensures.value (c.keeps_first.ensures c.if-keeps_first.true)) c.drop_second.ensures
+
+pub returns-then-keeps_only : goal.returns-then-keeps_only
+returns-then-keeps_only c =
+    only_kept c.args.production (map lexeme_view c.args.tokens.now) (reverse c.args.stack.now.items) (subst (λ (xs : List Value). KeepsOnly c.args.production (reverse xs)) c.deref-2.ensures.value (c.keeps_only.ensures c.if-keeps_only.true))
