@@ -1,0 +1,13 @@
+pub mod Bodies
+pub mod Codes
+pub mod Declarations
+pub mod Examples
+pub mod Expressions
+pub mod Judgements
+pub mod Jumps
+pub mod Refused
+pub mod Scopes
+pub mod Statements
+pub mod StaticTypes
+pub mod Types
+pub mod Variables
