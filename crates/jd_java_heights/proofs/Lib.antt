@@ -3,6 +3,7 @@ mod Low
 mod Sizes
 mod Roles
 mod Lines
+mod Rows
 mod Table
 mod Trees
 mod Reading

@@ -1,11 +1,6 @@
 -- What the nodes of each production tell, in the order of the productions.
-use Rattle.std.proofs.Common.{◌≡◌, inl, inr, ℕ, ◌+◌, List, [], ◌∷◌, drop, true, false, refl, ap}
-use Rattle.jd_grammar.specs.Grammars.{Production}
-use Rattle.jd_grammar.specs.declared.fold.NodeParts.{NodeParts}
-use Rattle.jd_grammar.specs.declared.table.Symbol.{Symbol}
-use Rattle.jd_grammar.specs.declared.table.Symbol.TheVariants.{Token, Name}
+use Rattle.std.proofs.Common.{inl, inr, [], drop, true, false, refl, ap}
 use Rattle.jd_java_grammar.specs.Productions.{java_productions}
-use Rattle.jd_java_tokens.specs.Contents.{PlainLexeme}
 use Rattle.jd_java_tokens.specs.Heads.{place_of, text_of, number_of}
 use Rattle.jd_syntax.specs.JavaTypes.{BooleanType}
 use Rattle.jd_syntax.specs.JavaTrees as java
@@ -14,36 +9,15 @@ use Rattle.jd_syntax.specs.declared.java.PrefixOperator.TheVariants as prefixes
 use Rattle.jd_syntax.specs.declared.java.CountOperator.TheVariants as counts
 use Rattle.jd_syntax.specs.declared.java.AssignmentOperator.TheVariants as assignments
 use Rattle.jd_java_values.specs.Values as values
-use Rattle.jd_java_values.specs.Values.{PlainValue}
 use Rattle.jd_java_values.specs.Heads.{type_at}
 use Rattle.jd_java_values.specs.Parts.{expression_of, type_of, static_of, blocks_of, members_of, end_of, classes_of}
 use Rattle.jd_java_statements.specs.Meaning.{loop_block}
-use Rattle.jd_java_attributes.specs.Rules.{row_of}
-use Rattle.jd_java_attributes.specs.Judging.{PlainAttributes, nothing, plain_forms, attributes_by}
-use Rattle.jd_java_trees.specs.Meaning.{action_of, meaning_by}
-use Rattle.jd_java_texts.specs.Kept.{rest, IsProperNode}
+use Rattle.jd_java_attributes.specs.Judging.{plain_forms}
 use Rattle.jd_java_heights.proofs.Levels.{nothing_is, equal_to, only1, only2, only3, only4, both_is, low_is}
 use Rattle.jd_java_heights.proofs.Sizes.{highest_in_declared, declared_height, int_in, named_in, member_highest, member_height_is, body_highest, body_height, members_highest, members_behind, classes_highest, classes_behind}
-use Rattle.jd_java_heights.proofs.Roles.{Tells, expr_is, optional_is, statement_is, no_tail}
+use Rattle.jd_java_heights.proofs.Roles.{expr_is, optional_is, statement_is, no_tail}
 use Rattle.jd_java_heights.proofs.Lines.{tails, operand, name_operand, name_effect, this_operand, inside_operand, begun_operand, passed, literal, counted, prefixed, before, alone, count, choice, member, cast_is, int_cast_is, cast_operand_is, suffixes_there, parenthesis_is, array_is, object_is, arguments_more, called, variables1, variables2, labelled, local_behind, effect_behind, named_stmt, effect_named, start_variables, start_effects, named_start_is, effects_start, statement_passed, annotated_is, labelled_is, if_is, while_is, for_is, statements_is, super_is, try_is, rescue_is, finally_is, handlers_is, single_is}
-
--- the parts of a node tell what their names say, and there are no others
-abbrev pub Fits : List Symbol → NodeParts PlainValue → NodeParts PlainAttributes → Type 0
-Fits [] parts marks =
-    (marks.first ≡ nothing) × (marks.second ≡ nothing) × (marks.third ≡ nothing) × (marks.fourth ≡ nothing)
-    × (parts.first ≡ values.Nothing) × (parts.second ≡ values.Nothing) × (parts.third ≡ values.Nothing) × (parts.fourth ≡ values.Nothing)
-Fits (Token kind ∷ ss) parts marks = Fits ss parts marks
-Fits (Name a ∷ ss) parts marks = Tells a parts.first marks.first.form × Fits ss (rest values.Nothing parts) (rest nothing marks)
-
--- then so does a node of that production
-abbrev pub Shows : ℕ → Production → Type 0
-Shows n r =
-    (ts : List PlainLexeme) (parts : NodeParts PlainValue) (marks : NodeParts PlainAttributes) → Fits r.body parts marks → IsProperNode (action_of n) parts
-    → Tells r.head (meaning_by (action_of n) ts parts) (attributes_by (row_of n) ts marks).form
-
-abbrev pub Each : ℕ → List Production → Type 0
-Each n [] = Unit {0}
-Each n (r ∷ rs) = Shows n r × Each (n + 1) rs
+use Rattle.jd_java_heights.proofs.Rows.{Each}
 
 -- ---- the productions from that name on; the last ones come first
 

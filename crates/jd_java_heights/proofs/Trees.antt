@@ -20,7 +20,8 @@ use Rattle.jd_java_heights.specs.Told.{IsLow}
 use Rattle.jd_java_heights.proofs.Levels.{IsForm}
 use Rattle.jd_java_heights.proofs.Low.{root_low, root_none}
 use Rattle.jd_java_heights.proofs.Roles.{Tells}
-use Rattle.jd_java_heights.proofs.Table.{Fits, Shows, Each, each}
+use Rattle.jd_java_heights.proofs.Rows.{Fits, Shows, Each}
+use Rattle.jd_java_heights.proofs.Table.{each}
 
 -- ---- one production of the list
 

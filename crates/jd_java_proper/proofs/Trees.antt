@@ -17,7 +17,8 @@ use Rattle.jd_java_attributes.specs.Judging.{PlainAttributes, nothing, fault_of,
 use Rattle.jd_java_trees.specs.Meaning.{action_of, value_of_node}
 use Rattle.jd_java_texts.specs.Kept.{IsProper, IsProperNode}
 use Rattle.jd_java_proper.proofs.Rules.{first_none, both_none, is_single, NoFaults, NoneBehind, forms_none, NoHeadingFaults, headings_none}
-use Rattle.jd_java_proper.proofs.Table.{Tells, Fits, Shows, Each, each}
+use Rattle.jd_java_proper.proofs.Roles.{Tells, Fits, Shows, Each}
+use Rattle.jd_java_proper.proofs.Table.{each}
 
 -- ---- one production of the list
 

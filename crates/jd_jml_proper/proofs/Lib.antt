@@ -1,5 +1,7 @@
 mod Told
 mod Rules
 mod Sums
+mod Roles
 mod Table
+mod Faultless
 mod Trees

@@ -17,7 +17,9 @@ use Rattle.jd_jml_attributes.specs.Rules.{row_of, made, with_high}
 use Rattle.jd_jml_trees.specs.Meaning.{action_of, value_of_node}
 use Rattle.jd_jml_texts.specs.Kept.{IsProper, IsProperNode}
 use Rattle.jd_jml_proper.proofs.Rules.{NoFaults}
-use Rattle.jd_jml_proper.proofs.Table.{Role, Plain, Operand, RelationalTail, AndTail, Tail, Identifier, Call, Parenthesis, OtherKind, BehindParenthesis, told_by, roles, Tells, Fits, Shows, Each, each, Ends, ShowsNone, EachNone, each_none}
+use Rattle.jd_jml_proper.proofs.Roles.{Role, Plain, Operand, RelationalTail, AndTail, Tail, Identifier, Call, Parenthesis, OtherKind, BehindParenthesis, told_by, roles, Tells, Fits, Shows, Each, Ends, ShowsNone, EachNone}
+use Rattle.jd_jml_proper.proofs.Table.{each}
+use Rattle.jd_jml_proper.proofs.Faultless.{each_none}
 
 -- ---- one production of the list
 
