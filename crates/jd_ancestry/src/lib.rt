@@ -2,10 +2,12 @@
 #![tactic(auto)]
 
 mod cycles;
+mod forest;
 mod numbering;
 mod order;
 mod walks;
 
 pub use cycles::first_above_itself;
+pub use forest::Forest;
 pub use numbering::depths;
 pub use order::{depths_are_an_order, is_above};

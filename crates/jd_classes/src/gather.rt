@@ -21,7 +21,7 @@ use crate::standing::standing_names;
 use jd_ancestry::depths;
 use jd_base::NoMemory;
 use jd_jfamilies::{Families, families_of};
-use jd_jgraph::family_graph;
+use jd_jgraph::{Numbering, family_graph};
 use jd_jheads::{Heads, read_heads};
 use jd_jinfos::{FieldInfo, MethodInfo, OwnMembers, field_infos, method_infos, own_members};
 use jd_jlists::{MemberOf, members_of};
@@ -54,37 +54,46 @@ pub(crate) struct Gathered {
     pub(crate) own: Vec<OwnMembers>,
 }
 
+// What is known of classes before their call graph.
+#[derive(Clone, Copy)]
+struct Known<'a> {
+    heads: &'a Heads,
+    names: &'a Numbers,
+    seen: &'a Seen,
+    families: &'a Families,
+}
+
 // The call graph of the families, closed.
 fn closed_graph(
     alloc: Global,
     units: &[Unit],
-    heads: &Heads,
     members: &[MemberOf<'_>],
-    names: &Numbers,
-    seen: &Seen,
-    families: &Families,
+    known: Known<'_>,
 ) -> Result<Graph, NoMemory>
     requires members { map member_of_view members.now ≡ declared_members (map unit_view units.now) }
-    requires class_names { names_of heads.now ≡ class_names (map unit_view units.now) }
-    requires parents { heads.now.parents.items ≡ parents_of_classes (map unit_view units.now) }
-    requires numbers { AreNumbers SameName (declared_members (map unit_view units.now)) names.now.numbers.items (count_of names.now) }
-    requires names { AreNames (declared_members (map unit_view units.now)) (texts_of names.now) names.now.numbers.items }
+    requires class_names { names_of known.heads.now ≡ class_names (map unit_view units.now) }
+    requires parents { known.heads.now.parents.items ≡ parents_of_classes (map unit_view units.now) }
+    requires numbers { AreNumbers SameName (declared_members (map unit_view units.now)) known.names.now.numbers.items (count_of known.names.now) }
+    requires names { AreNames (declared_members (map unit_view units.now)) (texts_of known.names.now) known.names.now.numbers.items }
     requires stand { AreClasses (map unit_view units.now) }
-    requires counted { name_count seen.now ≡ count_of names.now }
-    requires seen { AreSeen (map unit_view units.now) names.now.numbers.items (count_of names.now) (cells_of seen.now) }
-    requires each { length families.now.numbers.items ≡ length (routines (map unit_view units.now)) }
-    requires families { AreFamilies (map unit_view units.now) families.now.count (family_in families.now.numbers.items) }
-    ensures nodes { IfOk result (λ g. node_count g ≡ families.now.count) }
-    ensures closed { IfOk result (λ g. IsClosedCallGraph (map unit_view units.now) families.now.numbers.items families.now.count (edge g)) }
+    requires counted { name_count known.seen.now ≡ count_of known.names.now }
+    requires seen { AreSeen (map unit_view units.now) known.names.now.numbers.items (count_of known.names.now) (cells_of known.seen.now) }
+    requires each { length known.families.now.numbers.items ≡ length (routines (map unit_view units.now)) }
+    requires families { AreFamilies (map unit_view units.now) known.families.now.count (family_in known.families.now.numbers.items) }
+    ensures nodes { IfOk result (λ g. node_count g ≡ known.entry.families.now.count) }
+    ensures closed { IfOk result (λ g. IsClosedCallGraph (map unit_view units.now) known.entry.families.now.numbers.items known.entry.families.now.count (edge g)) }
 {
+    let families = Numbering {
+        of: &known.families.numbers,
+        count: known.families.count,
+    };
     family_graph(
         alloc,
-        heads,
+        known.heads,
         members,
-        names,
-        seen,
-        &families.numbers,
-        families.count,
+        known.names,
+        known.seen,
+        families,
     )
 }
 
@@ -120,7 +129,13 @@ fn gather_standing(
         count,
     )?;
     let families = families_of(alloc, &heads.parents, members, &names.numbers, &seen)?;
-    let graph = closed_graph(alloc, units, &heads, members, &names, &seen, &families)?;
+    let known = Known {
+        heads: &heads,
+        names: &names,
+        seen: &seen,
+        families: &families,
+    };
+    let graph = closed_graph(alloc, units, members, known)?;
     let fields = field_infos(alloc, members)?;
     let methods = method_infos(alloc, members)?;
     let own = own_members(alloc, heads.parents.len() as u32, members)?;

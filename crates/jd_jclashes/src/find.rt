@@ -13,6 +13,7 @@ ghost use Rattle.jd_jclashes.specs.Items.{HaveClassesBelow, HaveRisingClasses};
 use crate::clash::Clash;
 use crate::numbers::MemberNumbers;
 use crate::reason::{Reason, first_place};
+use jd_ancestry::Forest;
 use jd_base::NoMemory;
 use jd_jlists::MemberOf;
 use jd_syntax::Unit;
@@ -51,7 +52,7 @@ pub(crate) fn clash_among(
         → MatchOption c (MembersStand units) (ClashRefuses units)) }
 {
     for reason in REASONS {
-        if let Some(i) = first_place(alloc, reason, parents, depths, members, numbers)? {
+        if let Some(i) = first_place(alloc, reason, Forest { parents, depths }, members, numbers)? {
             return Ok(Some(reason.clash(&members[i as usize])));
         }
     }

@@ -15,6 +15,7 @@ ghost use Rattle.jd_jclashes.specs.Repeats.{is_compared};
 
 use crate::compared::Compared;
 use crate::numbers::Numbers;
+use jd_ancestry::Forest;
 use jd_base::NoMemory;
 use jd_inherited::{Item, first_disagreeing};
 use jd_jlists::MemberOf;
@@ -77,32 +78,30 @@ fn items_of(
 pub(crate) fn first_differing(
     alloc: Global,
     compared: Compared,
-    parents: &[Option<u32>],
-    depths: &[u32],
+    forest: Forest<'_>,
     members: &[MemberOf<'_>],
     names: &Numbers<'_>,
     variants: &Numbers<'_>,
 ) -> Result<Option<u32>, NoMemory>
-    requires few_nodes { length parents.now ≤ 4294967294 }
+    requires few_nodes { length forest.parents.now ≤ 4294967294 }
     requires few { length members.now ≤ 999999999 }
     requires few_names { names.now.count ≤ 999999999 }
     requires few_variants { variants.now.count ≤ 999999999 }
-    requires nodes { AreNodes parents.now }
-    requires depths { IsDepths parents.now depths.now }
-    requires classes { HaveClassesBelow (length parents.now) (map member_of_view members.now) }
+    requires nodes { AreNodes forest.parents.now }
+    requires depths { IsDepths forest.parents.now forest.depths.now }
+    requires classes { HaveClassesBelow (length forest.parents.now) (map member_of_view members.now) }
     requires named { AreNumbers SameName (map member_of_view members.now) names.now.of.now names.now.count }
     requires numbered { AreVariants (map member_of_view members.now) variants.now.of.now variants.now.count }
     ensures inside { IfOk result (λ first. IfSome first (λ i. i < length members.now)) }
     ensures found { IfOk result (λ first. (units : List JavaUnit) → map member_of_view members.now ≡ declared_members units
-        → parents.now ≡ parents_of_classes units
+        → forest.entry.parents.now ≡ parents_of_classes units
         → IsFoundFirst (DiffersAt units (is_compared compared) variants.now.of.now) first) }
 {
     let items = items_of(alloc, compared, members, names, variants)?;
     let count = members.len() as u32;
     Ok(first_disagreeing(
         alloc,
-        parents,
-        depths,
+        forest,
         &items,
         names.count + count,
         variants.count + count,
@@ -124,21 +123,20 @@ fn indices(alloc: Global, count: u32) -> Result<Vec<u32>, NoMemory>
 // The first variable of the name of one of an ancestor: with a number of its own for each member.
 pub(crate) fn first_hiding(
     alloc: Global,
-    parents: &[Option<u32>],
-    depths: &[u32],
+    forest: Forest<'_>,
     members: &[MemberOf<'_>],
     names: &Numbers<'_>,
 ) -> Result<Option<u32>, NoMemory>
-    requires few_nodes { length parents.now ≤ 4294967294 }
+    requires few_nodes { length forest.parents.now ≤ 4294967294 }
     requires few { length members.now ≤ 999999999 }
     requires few_names { names.now.count ≤ 999999999 }
-    requires nodes { AreNodes parents.now }
-    requires depths { IsDepths parents.now depths.now }
-    requires classes { HaveClassesBelow (length parents.now) (map member_of_view members.now) }
+    requires nodes { AreNodes forest.parents.now }
+    requires depths { IsDepths forest.parents.now forest.depths.now }
+    requires classes { HaveClassesBelow (length forest.parents.now) (map member_of_view members.now) }
     requires named { AreNumbers SameName (map member_of_view members.now) names.now.of.now names.now.count }
     ensures inside { IfOk result (λ first. IfSome first (λ i. i < length members.now)) }
     ensures found { IfOk result (λ first. (units : List JavaUnit) → map member_of_view members.now ≡ declared_members units
-        → parents.now ≡ parents_of_classes units → ClassesStand units
+        → forest.entry.parents.now ≡ parents_of_classes units → ClassesStand units
         → IsFoundFirst (HidingAt units) first) }
 {
     let count = members.len() as u32;
@@ -147,13 +145,5 @@ pub(crate) fn first_hiding(
         of: &indices,
         count,
     };
-    Ok(first_differing(
-        alloc,
-        Compared::Variables,
-        parents,
-        depths,
-        members,
-        names,
-        &own,
-    )?)
+    Ok(first_differing(alloc, Compared::Variables, forest, members, names, &own)?)
 }

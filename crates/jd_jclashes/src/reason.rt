@@ -18,6 +18,7 @@ use crate::compared::Compared;
 use crate::items::{first_differing, first_hiding};
 use crate::numbers::{MemberNumbers, Numbers};
 use crate::repeats::first_repeat;
+use jd_ancestry::Forest;
 use jd_base::NoMemory;
 use jd_jlists::MemberOf;
 use std::alloc::Global;
@@ -60,37 +61,28 @@ fn earlier(one: Option<u32>, other: Option<u32>) -> Option<u32>
 // The first method of the name of another in its class, or with other parameters than one of its name in an ancestor.
 fn first_overload(
     alloc: Global,
-    parents: &[Option<u32>],
-    depths: &[u32],
+    forest: Forest<'_>,
     members: &[MemberOf<'_>],
     names: &Numbers<'_>,
     signatures: &Numbers<'_>,
 ) -> Result<Option<u32>, NoMemory>
-    requires few_nodes { length parents.now ≤ 4294967294 }
+    requires few_nodes { length forest.parents.now ≤ 4294967294 }
     requires few { length members.now ≤ 999999999 }
     requires few_names { names.now.count ≤ 999999999 }
     requires few_signatures { signatures.now.count ≤ 999999999 }
-    requires nodes { AreNodes parents.now }
-    requires depths { IsDepths parents.now depths.now }
+    requires nodes { AreNodes forest.parents.now }
+    requires depths { IsDepths forest.parents.now forest.depths.now }
     requires rising { HaveRisingClasses (map member_of_view members.now) }
-    requires classes { HaveClassesBelow (length parents.now) (map member_of_view members.now) }
+    requires classes { HaveClassesBelow (length forest.parents.now) (map member_of_view members.now) }
     requires named { AreNumbers SameName (map member_of_view members.now) names.now.of.now names.now.count }
     requires signed { AreNumbers SameSignature (map member_of_view members.now) signatures.now.of.now signatures.now.count }
     ensures inside { IfOk result (λ first. IfSome first (λ i. i < length members.now)) }
     ensures found { IfOk result (λ first. (units : List JavaUnit) → map member_of_view members.now ≡ declared_members units
-        → parents.now ≡ parents_of_classes units
+        → forest.entry.parents.now ≡ parents_of_classes units
         → IsFoundFirst (OverloadAt units) first) }
 {
     let repeat = first_repeat(alloc, Compared::Methods, members, names)?;
-    let other = first_differing(
-        alloc,
-        Compared::Methods,
-        parents,
-        depths,
-        members,
-        names,
-        signatures,
-    )?;
+    let other = first_differing(alloc, Compared::Methods, forest, members, names, signatures)?;
     Ok(earlier(repeat, other))
 }
 
@@ -98,40 +90,38 @@ fn first_overload(
 pub(crate) fn first_place(
     alloc: Global,
     reason: Reason,
-    parents: &[Option<u32>],
-    depths: &[u32],
+    forest: Forest<'_>,
     members: &[MemberOf<'_>],
     numbers: &MemberNumbers<'_>,
 ) -> Result<Option<u32>, NoMemory>
-    requires few_nodes { length parents.now ≤ 4294967294 }
+    requires few_nodes { length forest.parents.now ≤ 4294967294 }
     requires few { length members.now ≤ 999999999 }
     requires few_names { numbers.now.names.count ≤ 999999999 }
     requires few_signatures { numbers.now.signatures.count ≤ 999999999 }
     requires few_returns { numbers.now.returns.count ≤ 999999999 }
-    requires nodes { AreNodes parents.now }
-    requires depths { IsDepths parents.now depths.now }
+    requires nodes { AreNodes forest.parents.now }
+    requires depths { IsDepths forest.parents.now forest.depths.now }
     requires rising { HaveRisingClasses (map member_of_view members.now) }
-    requires classes { HaveClassesBelow (length parents.now) (map member_of_view members.now) }
+    requires classes { HaveClassesBelow (length forest.parents.now) (map member_of_view members.now) }
     requires named { AreNumbers SameName (map member_of_view members.now) numbers.now.names.of.now numbers.now.names.count }
     requires signed { AreNumbers SameSignature (map member_of_view members.now) numbers.now.signatures.of.now numbers.now.signatures.count }
     requires given { AreNumbers SameReturn (map member_of_view members.now) numbers.now.returns.of.now numbers.now.returns.count }
     ensures inside { IfOk result (λ first. IfSome first (λ i. i < length members.now)) }
     ensures found { IfOk result (λ first. (units : List JavaUnit) → map member_of_view members.now ≡ declared_members units
-        → parents.now ≡ parents_of_classes units → ClassesStand units
+        → forest.entry.parents.now ≡ parents_of_classes units → ClassesStand units
         → IsFoundFirst (holds_at units reason) first) }
 {
     let names = &numbers.names;
     let place = match reason {
         Reason::SecondMember => first_repeat(alloc, Compared::Variables, members, names)?,
-        Reason::Hidden => first_hiding(alloc, parents, depths, members, names)?,
+        Reason::Hidden => first_hiding(alloc, forest, members, names)?,
         Reason::Overloaded => {
-            first_overload(alloc, parents, depths, members, names, &numbers.signatures)?
+            first_overload(alloc, forest, members, names, &numbers.signatures)?
         }
         Reason::BadlyOverridden => first_differing(
             alloc,
             Compared::Methods,
-            parents,
-            depths,
+            forest,
             members,
             names,
             &numbers.returns,

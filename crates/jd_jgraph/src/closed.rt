@@ -25,6 +25,15 @@ use jd_jseen::{Seen, numbers_of_classes, numbers_of_routines};
 use jd_reach::Graph;
 use std::alloc::Global;
 
+/// The family of each method and constructor, in the order of the files.
+#[derive(Clone, Copy)]
+pub struct Numbering<'a> {
+    /// The number of each one's family.
+    pub of: &'a [u32],
+    /// How many families there are.
+    pub count: u32,
+}
+
 /// The call graph of the families of a program's methods and constructors, closed: there is an edge
 /// from a family to each that it reaches by calls, over as many as may be, and to itself. A call of a
 /// method counts for each method of its name, one of a constructor for the constructor that runs (JLS
@@ -40,37 +49,36 @@ pub fn family_graph(
     members: &[MemberOf<'_>],
     names: &Numbers,
     seen: &Seen,
-    families: &[u32],
-    count: u32,
+    families: Numbering<'_>,
 ) -> Result<Graph, NoMemory>
-    requires few { count ≤ 65536 }
+    requires few { families.count ≤ 65536 }
     requires numbers { length names.now.numbers.items ≡ length members.now }
     requires names { AreNames (map member_of_view members.now) (texts_of names.now) names.now.numbers.items }
-    requires each { length families.now ≡ routine_count (map member_of_view members.now) }
-    requires below { All (λ f. f < count) families.now }
-    ensures count { IfOk result (λ g. node_count g ≡ count) }
+    requires each { length families.of.now ≡ routine_count (map member_of_view members.now) }
+    requires below { All (λ f. f < families.count) families.of.now }
+    ensures count { IfOk result (λ g. node_count g ≡ families.entry.count) }
     ensures calls { (units : List JavaUnit)
         → AreNamedTables units (names_of heads.now) heads.now.parents.items (map member_of_view members.now) names.now.numbers.items (name_count seen.now)
         → AreSeen units names.now.numbers.items (name_count seen.now) (cells_of seen.now)
-        → OnOk result ((calls : ℕ → ℕ → Bool) × AreFamilyCalls units (λ m. slice_index families.now m) calls) }
+        → OnOk result ((calls : ℕ → ℕ → Bool) × AreFamilyCalls units (λ m. slice_index families.entry.of.now m) calls) }
     ensures reaches { (units : List JavaUnit)
         → AreNamedTables units (names_of heads.now) heads.now.parents.items (map member_of_view members.now) names.now.numbers.items (name_count seen.now)
         → AreSeen units names.now.numbers.items (name_count seen.now) (cells_of seen.now)
-        → (calls : ℕ → ℕ → Bool) → AreFamilyCalls units (λ m. slice_index families.now m) calls
-        → IfOk result (λ g. (a b : ℕ) → a < count → b < count → Decides (edge g a b) (ReachesBy calls a b)) }
+        → (calls : ℕ → ℕ → Bool) → AreFamilyCalls units (λ m. slice_index families.entry.of.now m) calls
+        → IfOk result (λ g. (a b : ℕ) → a < families.entry.count → b < families.entry.count → Decides (edge g a b) (ReachesBy calls a b)) }
 {
     depths_are_an_order();
     numbers_of_classes();
     numbers_of_routines();
-    let by_name = families_by_name(alloc, members, &names.numbers, names.count(), families)?;
+    let by_name = families_by_name(alloc, members, &names.numbers, names.count(), families.of)?;
     let callees = Callees {
         heads,
         names,
         seen,
-        families,
+        families: families.of,
         by_name: &by_name,
     };
-    let mut graph = graph_of_calls(alloc, &callees, members, count)?;
+    let mut graph = graph_of_calls(alloc, &callees, members, families.count)?;
     graph.close(alloc)?;
     Ok(graph)
 }

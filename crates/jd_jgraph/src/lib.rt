@@ -6,4 +6,4 @@ mod callees;
 mod closed;
 mod named;
 
-pub use closed::family_graph;
+pub use closed::{Numbering, family_graph};

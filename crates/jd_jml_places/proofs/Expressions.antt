@@ -15,7 +15,7 @@ use Rattle.jd_jml_expressions.specs.Applying.{at_of, applied, all_applied, named
 use Rattle.jd_jml_expressions.specs.Meaning.{begun_at, parenthesis, int_cast, followed, class_of, meaning}
 use Rattle.jd_jml_expressions.specs.declared.action.Action.{Action}
 use Rattle.jd_jml_expressions.specs.declared.action.Action.TheVariants as actions
-use Rattle.jd_jml_places.specs.Unplaced.{unplaced_name, unplaced_written, unplaced_spec, unplaced_specs}
+use Rattle.jd_jml_places.specs.Unplaced.{unplaced_name, unplaced_written, unplaced_type, unplaced_spec, unplaced_specs}
 use Rattle.jd_jml_places.proofs.Values.{two, three, four, unplaced_suffix, unplaced_suffixes, unplaced_start, unplaced_value, unplaced_parts, unplaced, place_apart, text_apart, number_apart}
 
 -- ---- what a value is as a part
@@ -48,7 +48,7 @@ pub type_apart : (v : PlainValue) → unplaced_written (type_of v) ≡ type_of (
 type_apart (values.Typed t) = refl
 type_apart _ = refl
 
-bound_type_apart : (v : PlainValue) → bound_type_of v ≡ bound_type_of (unplaced_value v)
+bound_type_apart : (v : PlainValue) → unplaced_type (bound_type_of v) ≡ bound_type_of (unplaced_value v)
 bound_type_apart (values.Typed t) = refl
 bound_type_apart _ = refl
 
@@ -104,7 +104,7 @@ class_type_apart (jml.Name at x) = refl
 class_type_apart _ = refl
 
 quantified_apart : (q : Quantifier) (t : PlainSpecType) (x : PlainIdentifier) (e : PlainSpec) (r : Option PlainSpec)
-    → unplaced_start (quantified q t x e r) ≡ quantified q t (unplaced_name x) (unplaced_spec e) (option_map unplaced_spec r)
+    → unplaced_start (quantified q t x e r) ≡ quantified q (unplaced_type t) (unplaced_name x) (unplaced_spec e) (option_map unplaced_spec r)
 quantified_apart q t x e None = refl
 quantified_apart q t x e (Some r) = refl
 

@@ -7,7 +7,7 @@ use Rattle.jd_grammar.specs.declared.fold.NodeParts.{NodeParts}
 use Rattle.jd_jml_tokens.specs.Lexemes.{PlainLexeme, place_of, text_of, number_of}
 use Rattle.jd_jml_values.specs.Values as values
 use Rattle.jd_jml_values.specs.Values.{PlainSuffix, PlainStart, PlainEnd, PlainValue}
-use Rattle.jd_jml_places.specs.Unplaced.{unplaced_lexeme, unplaced_name, unplaced_written, unplaced_spec, unplaced_location, unplaced_clause}
+use Rattle.jd_jml_places.specs.Unplaced.{unplaced_lexeme, unplaced_name, unplaced_written, unplaced_type, unplaced_spec, unplaced_location, unplaced_clause}
 
 -- ---- equations in several places
 
@@ -35,8 +35,8 @@ unplaced_suffix (values.Element e) = values.Element (unplaced_spec e)
 abbrev pub unplaced_start : PlainStart → PlainStart
 unplaced_start (values.Inside e) = values.Inside (unplaced_spec e)
 unplaced_start (values.Cast t e) = values.Cast (unplaced_written t) (unplaced_spec e)
-unplaced_start (values.Quantified q t x e) = values.Quantified q t (unplaced_name x) (unplaced_spec e)
-unplaced_start (values.QuantifiedIn q t x r e) = values.QuantifiedIn q t (unplaced_name x) (unplaced_spec r) (unplaced_spec e)
+unplaced_start (values.Quantified q t x e) = values.Quantified q (unplaced_type t) (unplaced_name x) (unplaced_spec e)
+unplaced_start (values.QuantifiedIn q t x r e) = values.QuantifiedIn q (unplaced_type t) (unplaced_name x) (unplaced_spec r) (unplaced_spec e)
 unplaced_start (values.Sum x a b e) = values.Sum (unplaced_name x) (unplaced_spec a) (unplaced_spec b) (unplaced_spec e)
 
 abbrev pub unplaced_end : PlainEnd → PlainEnd

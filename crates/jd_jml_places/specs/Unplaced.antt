@@ -4,7 +4,7 @@ use Rattle.jd_lex.specs.Parts as lexed
 use Rattle.jd_jml_tokens.specs.Lexemes.{PlainLexeme}
 use Rattle.jd_syntax.specs.JavaTypes.{PlainIdentifier, PlainWritten}
 use Rattle.jd_syntax.specs.SpecTrees as jml
-use Rattle.jd_syntax.specs.SpecTrees.{PlainSpec, PlainSpecs, NoSpecs, SpecThen, PlainLocation, PlainClause}
+use Rattle.jd_syntax.specs.SpecTrees.{PlainSpecType, PlainSpec, PlainSpecs, NoSpecs, SpecThen, PlainLocation, PlainClause}
 
 abbrev pub unplaced_token : lexed.Token → lexed.Token
 unplaced_token t = record { kind = t.kind; begins = 0; ends = 0; jml = t.jml }
@@ -17,6 +17,10 @@ unplaced_name x = record { at = 0; name = x.name }
 
 abbrev pub unplaced_written : PlainWritten → PlainWritten
 unplaced_written t = record { at = 0; written = t.written }
+
+abbrev pub unplaced_type : PlainSpecType → PlainSpecType
+unplaced_type jml.BigInt = jml.BigInt
+unplaced_type (jml.Java t) = jml.Java (unplaced_written t)
 
 abbrev mutual
   pub unplaced_spec : PlainSpec → PlainSpec
@@ -41,8 +45,8 @@ abbrev mutual
   unplaced_spec (jml.Old at e) = jml.Old 0 (unplaced_spec e)
   unplaced_spec (jml.Fresh at e) = jml.Fresh 0 (unplaced_spec e)
   unplaced_spec (jml.InvariantFor at e) = jml.InvariantFor 0 (unplaced_spec e)
-  unplaced_spec (jml.Quantified at q t x e) = jml.Quantified 0 q t (unplaced_name x) (unplaced_spec e)
-  unplaced_spec (jml.QuantifiedIn at q t x r e) = jml.QuantifiedIn 0 q t (unplaced_name x) (unplaced_spec r) (unplaced_spec e)
+  unplaced_spec (jml.Quantified at q t x e) = jml.Quantified 0 q (unplaced_type t) (unplaced_name x) (unplaced_spec e)
+  unplaced_spec (jml.QuantifiedIn at q t x r e) = jml.QuantifiedIn 0 q (unplaced_type t) (unplaced_name x) (unplaced_spec r) (unplaced_spec e)
   unplaced_spec (jml.Sum at x a b e) = jml.Sum 0 (unplaced_name x) (unplaced_spec a) (unplaced_spec b) (unplaced_spec e)
 
   pub unplaced_specs : PlainSpecs → PlainSpecs

@@ -46,7 +46,7 @@ type_spaced (NamedType x) = ap (λ v. 32 ∷ v) (sym (append-nil x))
 
 spec_type_spaced : (t : PlainSpecType) → 32 ∷ spec_type_text t ≡ spaced (spec_type_texts t)
 spec_type_spaced jml.BigInt = refl
-spec_type_spaced (jml.Java t) = type_spaced t
+spec_type_spaced (jml.Java t) = type_spaced t.written
 
 abbrev of_type : PlainType → Part
 of_type t = words (type_text t) (type_texts t) (type_spaced t)

@@ -58,7 +58,7 @@ type_texts (NamedType x) = x ∷ []
 -- 7.1
 abbrev pub spec_type_texts : PlainSpecType → Texts
 spec_type_texts jml.BigInt = codes "\\bigint" ∷ []
-spec_type_texts (jml.Java t) = type_texts t
+spec_type_texts (jml.Java t) = type_texts t.written
 
 -- ---- expressions (JML Reference Manual, 12; JLS 15)
 

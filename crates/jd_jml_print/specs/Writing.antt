@@ -27,7 +27,7 @@ type_text (NamedType x) = x
 
 abbrev pub spec_type_text : PlainSpecType → List ℕ
 spec_type_text jml.BigInt = codes "\\bigint"
-spec_type_text (jml.Java t) = type_text t
+spec_type_text (jml.Java t) = type_text t.written
 
 -- a bracket, the word that binds, the type, the variable and `;`
 abbrev pub write_binder : List ℕ → List ℕ → List ℕ → List ℕ → List ℕ

@@ -69,6 +69,6 @@ pub(crate) fn spec_type_text(written: &SpecType) -> &[u8]
 {
     match written {
         SpecType::BigInt => b"\\bigint",
-        SpecType::Java(written) => type_text(written),
+        SpecType::Java(written) => type_text(&written.written),
     }
 }

@@ -3,8 +3,8 @@ use Rattle.std.proofs.Common.{◌≡◌, ℕ, List, [], ◌∷◌, ◌++◌, Opt
 use Rattle.std.specs.List.{flat_map}
 use Rattle.jd_syntax.specs.JavaTypes.{PlainIdentifier}
 use Rattle.jd_syntax.specs.SpecTrees as jml
-use Rattle.jd_syntax.specs.SpecTrees.{PlainSpec, PlainSpecs, NoSpecs, SpecThen, PlainLocation, PlainClause}
-use Rattle.jd_jml_places.specs.Unplaced.{unplaced_spec, unplaced_specs, unplaced_name, unplaced_location, unplaced_clause}
+use Rattle.jd_syntax.specs.SpecTrees.{PlainSpecType, PlainSpec, PlainSpecs, NoSpecs, SpecThen, PlainLocation, PlainClause}
+use Rattle.jd_jml_places.specs.Unplaced.{unplaced_type, unplaced_spec, unplaced_specs, unplaced_name, unplaced_location, unplaced_clause}
 use Rattle.jd_jml_print.specs.Texts.{Texts, type_texts, spec_type_texts, prefix_text, infix_text, quantifier_text, spec_texts, specs_texts, more_texts, location_texts, exception_texts, classes_texts, separated, clause_texts, spaced, printed}
 
 two : {A B C : Type 0} (f : A → B → C) {a x : A} {b y : B} → a ≡ x → b ≡ y → f a b ≡ f x y
@@ -14,6 +14,10 @@ three : {A B C D : Type 0} (f : A → B → C → D) {a x : A} {b y : B} {c z : 
 three f {a} {x} {b} {y} {c} {z} p q r = ap (λ u. f u b c) p ∙ ap (λ v. f x v c) q ∙ ap (f x y) r
 
 -- ---- expressions
+
+of_type : (t : PlainSpecType) → spec_type_texts (unplaced_type t) ≡ spec_type_texts t
+of_type jml.BigInt = refl
+of_type (jml.Java t) = refl
 
 mutual
   of_spec : (e : PlainSpec) → spec_texts (unplaced_spec e) ≡ spec_texts e
@@ -39,9 +43,9 @@ mutual
   of_spec (jml.Fresh at e) = ap (λ (u : Texts). codes "\\fresh" ∷ codes "(" ∷ u ++ codes ")" ∷ []) (of_spec e)
   of_spec (jml.InvariantFor at e) = ap (λ (u : Texts). codes "\\invariant_for" ∷ codes "(" ∷ u ++ codes ")" ∷ []) (of_spec e)
   of_spec (jml.Quantified at q t x e) =
-      ap (λ (u : Texts). codes "(" ∷ quantifier_text q ∷ spec_type_texts t ++ (x.name ∷ codes ";" ∷ u ++ codes ")" ∷ [])) (of_spec e)
+      two (λ (s u : Texts). codes "(" ∷ quantifier_text q ∷ s ++ (x.name ∷ codes ";" ∷ u ++ codes ")" ∷ [])) (of_type t) (of_spec e)
   of_spec (jml.QuantifiedIn at q t x r e) =
-      two (λ (u v : Texts). codes "(" ∷ quantifier_text q ∷ spec_type_texts t ++ (x.name ∷ codes ";" ∷ u ++ (codes ";" ∷ v ++ codes ")" ∷ []))) (of_spec r) (of_spec e)
+      three (λ (s u v : Texts). codes "(" ∷ quantifier_text q ∷ s ++ (x.name ∷ codes ";" ∷ u ++ (codes ";" ∷ v ++ codes ")" ∷ []))) (of_type t) (of_spec r) (of_spec e)
   of_spec (jml.Sum at x a b e) =
       three (λ (u v w : Texts). codes "(" ∷ codes "\\sum" ∷ codes "int" ∷ x.name ∷ codes ";" ∷ u ++ (codes "<=" ∷ x.name ∷ codes "&&" ∷ x.name ∷ codes "<" ∷ v ++ (codes ";" ∷ w ++ codes ")" ∷ [])))
       (of_spec a) (of_spec b) (of_spec e)

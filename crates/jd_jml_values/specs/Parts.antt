@@ -40,7 +40,7 @@ type_of _ = record { at = 0; written = IntType }
 
 -- the type of a bound variable
 abbrev pub bound_type_of : PlainValue → PlainSpecType
-bound_type_of (Typed t) = Java t.written
+bound_type_of (Typed t) = Java t
 bound_type_of _ = BigInt
 
 abbrev pub is_dimension : PlainValue → Bool

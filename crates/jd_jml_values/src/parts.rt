@@ -150,7 +150,7 @@ pub fn bound_type(value: &mut Value) -> SpecType
     ensures { spec_type_view result ≡ plain.bound_type_of (value_view value.old) }
 {
     match taken(value) {
-        Value::Typed(written) => SpecType::Java(written.written),
+        Value::Typed(written) => SpecType::Java(written),
         other => {
             discard(other);
             SpecType::BigInt

@@ -5,7 +5,7 @@ ghost use Rattle.jd_reach.specs.Paths.{ReachesBy};
 ghost use Rattle.jd_reach.specs.Rows.{row_bit, within};
 ghost use Rattle.jd_reach.specs.Searches.{AreClosed, AreKept, IsFilled, IsGroup};
 
-use crate::rows::{join, next_missing, set};
+use crate::rows::{Edges, join, next_missing, set};
 
 // Sets the bits of the members in a row.
 fn add_members(closed: &mut [u64], width: usize, nodes: usize, row: usize, members: &[usize])
@@ -46,8 +46,13 @@ fn add_reached(
         → IsFilled nodes (within nodes (row_bit width words.now)) (row_bit width closed.old) members row
         → (v : ℕ) → within nodes (row_bit width words.now) member v ≡ true → row_bit width closed.new row v ≡ true }
 {
+    let edges = Edges {
+        words,
+        width,
+        nodes,
+    };
     let mut from = 0;
-    while let Some(to) = next_missing(words, closed, width, nodes, member, row, from) {
+    while let Some(to) = next_missing(edges, closed, member, row, from) {
         join(closed, width, row, to);
         from = to + 1;
     }

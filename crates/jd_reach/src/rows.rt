@@ -77,34 +77,40 @@ pub(crate) fn next_edge(
     None
 }
 
+// The edges of a graph: rows of `width` words, one for each node.
+#[derive(Clone, Copy)]
+pub(crate) struct Edges<'a> {
+    pub(crate) words: &'a [u64],
+    pub(crate) width: usize,
+    pub(crate) nodes: usize,
+}
+
 // The first node, from one on, that a node has an edge to and that a closed row lacks.
 pub(crate) fn next_missing(
-    words: &[u64],
+    edges: Edges<'_>,
     closed: &[u64],
-    width: usize,
-    nodes: usize,
     member: usize,
     row: usize,
     from: usize,
 ) -> Option<usize>
-    requires words { nodes * width ≤ length words.now }
-    requires rows { nodes * width ≤ length closed.now }
-    requires bits { nodes ≤ 64 * width }
-    requires few { nodes ≤ 65536 }
-    requires member { member < nodes }
-    requires row { row < nodes }
-    ensures found { IfSome result (λ v. (from ≤ v) × (v < nodes)
-        × (within nodes (row_bit width words.now) member v ≡ true) × (row_bit width closed.now row v ≡ false)) }
-    ensures first { (b : ℕ) → from ≤ b → within nodes (row_bit width words.now) member b ≡ true
-        → row_bit width closed.now row b ≡ false → IsSomeAnd result (λ v. v ≤ b) }
+    requires words { edges.nodes * edges.width ≤ length edges.words.now }
+    requires rows { edges.nodes * edges.width ≤ length closed.now }
+    requires bits { edges.nodes ≤ 64 * edges.width }
+    requires few { edges.nodes ≤ 65536 }
+    requires member { member < edges.nodes }
+    requires row { row < edges.nodes }
+    ensures found { IfSome result (λ v. (from ≤ v) × (v < edges.entry.nodes)
+        × (within edges.entry.nodes (row_bit edges.entry.width edges.entry.words.now) member v ≡ true) × (row_bit edges.entry.width closed.now row v ≡ false)) }
+    ensures first { (b : ℕ) → from ≤ b → within edges.entry.nodes (row_bit edges.entry.width edges.entry.words.now) member b ≡ true
+        → row_bit edges.entry.width closed.now row b ≡ false → IsSomeAnd result (λ v. v ≤ b) }
 {
     let mut bit = from;
-    while bit < nodes {
-        let word = words[member * width + bit / 64];
-        let known = closed[row * width + bit / 64];
+    while bit < edges.nodes {
+        let word = edges.words[member * edges.width + bit / 64];
+        let known = closed[row * edges.width + bit / 64];
         if let Some(place) = lowest_from(word & !known, bit % 64) {
             let found = bit - bit % 64 + place;
-            if found < nodes {
+            if found < edges.nodes {
                 return Some(found);
             }
             return None;

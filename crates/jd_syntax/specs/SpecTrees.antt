@@ -1,6 +1,6 @@
 -- Plain trees of JML, with their offsets, and their views.
 use Rattle.std.specs.Prelude.{ℕ, ℤ, Bool, List, [], ◌∷◌, Option, map, option_map}
-use Rattle.jd_syntax.specs.JavaTypes.{PlainIdentifier, identifier_view, PlainType, type_view, PlainWritten, written_view}
+use Rattle.jd_syntax.specs.JavaTypes.{PlainIdentifier, identifier_view, PlainWritten, written_view}
 use Rattle.jd_syntax.specs.declared.java.InfixOperator.{InfixOperator}
 use Rattle.jd_syntax.specs.declared.spec.SpecPlace.{SpecPlace}
 use Rattle.jd_syntax.specs.declared.spec.SpecPrefix.{SpecPrefix}
@@ -20,11 +20,11 @@ use Rattle.jd_syntax.specs.declared.spec.SpecBlock.{SpecBlock}
 
 pub data PlainSpecType : Type 0 where
   BigInt : PlainSpecType
-  Java : PlainType → PlainSpecType
+  Java : PlainWritten → PlainSpecType
 
 abbrev pub spec_type_view : SpecType → PlainSpecType
 spec_type_view types.BigInt = BigInt
-spec_type_view (types.Java t) = Java (type_view t)
+spec_type_view (types.Java t) = Java (written_view t)
 
 -- the number is the offset of the expression's first token
 mutual

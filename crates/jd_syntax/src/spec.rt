@@ -1,4 +1,4 @@
-use crate::java::{Identifier, InfixOperator, JavaType, WrittenType};
+use crate::java::{Identifier, InfixOperator, WrittenType};
 use jd_base::MethodId;
 
 /// A place where JML stands.
@@ -22,8 +22,8 @@ pub enum SpecPlace {
 pub enum SpecType {
     /// `\bigint`
     BigInt,
-    /// A type of Java.
-    Java(JavaType),
+    /// A type of Java, and where it stands.
+    Java(WrittenType),
 }
 
 /// An operator before an operand in JML.

@@ -13,7 +13,7 @@ first_disagreeing-requires-clause-items c =
     let variants = c.args.variants.now in
     let are = subst (AreItemsOf (is_compared c.args.compared) ms names.of.now names.count variants.of.now variants.count) (sym c.deref.ensures.value) c.in_ok-items.ensures in
     are_items (is_compared c.args.compared) ms names.of.now names.count variants.of.now variants.count c.deref.result.now are c.requires.named c.requires.numbered
-    (length c.args.parents.now) (length c.args.members.now) (sym (length-map c.args.members.now member_of_view)) c.requires.classes
+    (length c.args.forest.parents.now) (length c.args.members.now) (sym (length-map c.args.members.now member_of_view)) c.requires.classes
 
 pub first_disagreeing-requires-clause-one_key : goal.first_disagreeing-requires-clause-one_key
 first_disagreeing-requires-clause-one_key c =
@@ -30,4 +30,4 @@ returns-clause-found c units same same_ups =
     let variants = c.args.variants.now in
     let are = subst (AreItemsOf (is_compared c.args.compared) ms names.of.now names.count variants.of.now variants.count) (sym c.deref.ensures.value) c.in_ok-items.ensures in
     found_differing (is_compared c.args.compared) ms names.of.now names.count variants.of.now variants.count c.deref.result.now are c.requires.named c.requires.numbered
-    units c.args.parents.now same same_ups c.in_ok-first_disagreeing.field-0 c.in_ok-first_disagreeing.ensures
+    units c.args.forest.parents.now same same_ups c.in_ok-first_disagreeing.field-0 c.in_ok-first_disagreeing.ensures

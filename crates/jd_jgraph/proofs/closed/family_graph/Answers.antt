@@ -39,16 +39,16 @@ pub graph_of_calls-requires-clause-below : goal.graph_of_calls-requires-clause-b
 graph_of_calls-requires-clause-below c =
     let members = map member_of_view c.args.members.now in
     let whole : length c.args.members.now ≡ length members = sym (length-map c.args.members.now member_of_view) in
-    let named = subst (λ (vs : List (Vec ℕ)). AreNamed members c.deref.result.now c.args.families.now (length c.args.members.now) (lists_of vs)) (sym c.deref-2.ensures.value) c.in_ok-by_name.ensures.named in
+    let named = subst (λ (vs : List (Vec ℕ)). AreNamed members c.deref.result.now c.args.families.of.now (length c.args.members.now) (lists_of vs)) (sym c.deref-2.ensures.value) c.in_ok-by_name.ensures.named in
     let each = c.requires.each ∙ sym (count_before members (length c.args.members.now) whole) in
     record {
       families = c.requires.below;
-      named = named_below members c.deref.result.now c.args.families.now c.args.count (length c.args.members.now) (lists_of c.deref-2.result.now) whole named each c.requires.below;
+      named = named_below members c.deref.result.now c.args.families.of.now c.args.families.count (length c.args.members.now) (lists_of c.deref-2.result.now) whole named each c.requires.below;
     }
 
 -- what the calls are looked up in
 abbrev callees_of : After-close → Callees
-callees_of c = record { heads = c.args.heads; names = c.args.names; seen = c.args.seen; families = c.args.families; by_name = c.deref-2.result }
+callees_of c = record { heads = c.args.heads; names = c.args.names; seen = c.args.seen; families = c.args.families.of; by_name = c.deref-2.result }
 
 module _ (c : After-close) (units : List JavaUnit) (tables : AreNamedTables units (names_of c.args.heads.now) c.args.heads.now.parents.items (map member_of_view c.args.members.now) c.args.names.now.numbers.items (name_count c.args.seen.now)) where
   abbrev members : List Declared
@@ -62,9 +62,9 @@ module _ (c : After-close) (units : List JavaUnit) (tables : AreNamedTables unit
 
   looked_up : AreSeen units numbers (name_count c.args.seen.now) (cells_of c.args.seen.now) → IsLookup units numbers (lookup (callees_of c))
   looked_up seen =
-      let named : AreNamed members numbers c.args.families.now (length c.args.members.now) (lists_of c.deref-2.result.now) =
-      subst (λ (ns : List ℕ). AreNamed members ns c.args.families.now (length c.args.members.now) (lists_of c.deref-2.result.now)) c.deref.ensures.value
-      (subst (λ (vs : List (Vec ℕ)). AreNamed members c.deref.result.now c.args.families.now (length c.args.members.now) (lists_of vs)) (sym c.deref-2.ensures.value) c.in_ok-by_name.ensures.named) in
+      let named : AreNamed members numbers c.args.families.of.now (length c.args.members.now) (lists_of c.deref-2.result.now) =
+      subst (λ (ns : List ℕ). AreNamed members ns c.args.families.of.now (length c.args.members.now) (lists_of c.deref-2.result.now)) c.deref.ensures.value
+      (subst (λ (vs : List (Vec ℕ)). AreNamed members c.deref.result.now c.args.families.of.now (length c.args.members.now) (lists_of vs)) (sym c.deref-2.ensures.value) c.in_ok-by_name.ensures.named) in
       let as_many : length (lookup (callees_of c)).named ≡ length (lookup (callees_of c)).names =
       length-map c.deref-2.result.now (λ (v : Vec ℕ). v.items) ∙ ap length c.deref-2.ensures.value ∙ c.in_ok-by_name.ensures.count ∙ c.count.ensures in
       is_lookup units (lookup (callees_of c)) members numbers (name_count c.args.seen.now) (length c.args.members.now) tables whole c.requires.names named as_many (c.requires.each ∙ sym (count_before members (length c.args.members.now) whole)) seen.constructors

@@ -5,7 +5,7 @@ use Rattle.jd_reach.proofs.rows.next_missing.Given as goal
 abbrev pub invariant-loop-bit : goal.invariant-loop-bit
 invariant-loop-bit l =
     (l.from ≤ l.bit)
-    × ((b : ℕ) → l.from ≤ b → b < l.bit → within l.nodes (row_bit l.width l.words) l.member b ≡ true → row_bit l.width l.closed l.row b ≡ false → ⊥)
+    × ((b : ℕ) → l.from ≤ b → b < l.bit → within l.edges.nodes (row_bit l.edges.width l.edges.words.now) l.member b ≡ true → row_bit l.edges.width l.closed l.row b ≡ false → ⊥)
 
 abbrev pub decreases-loop-bit : goal.decreases-loop-bit
-decreases-loop-bit l = l.nodes - l.bit
+decreases-loop-bit l = l.edges.nodes - l.bit
