@@ -1,0 +1,10 @@
+pub mod Resolved
+pub mod Meaning
+pub mod Translation
+pub mod Standing
+pub mod InvariantFormulas
+pub mod JmlContracts
+pub mod ContractFormulas
+pub mod JmlCases
+pub mod Scopes
+pub mod Laws

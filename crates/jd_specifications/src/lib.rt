@@ -1,0 +1,8 @@
+//! The specifications of Java's methods and classes: which JML no program has, and what it stands for. Laws alone.
+#![tactic(auto)]
+
+mod examples;
+mod fault;
+
+pub use examples::{meaning_examples, spec_fault_examples};
+pub use fault::{SpecCause, SpecFault};
