@@ -1,6 +1,7 @@
 //! Terms, locations, updates and formulas of Java Dynamic Logic.
 #![tactic(auto)]
 
+mod boxes;
 mod copies;
 mod equality;
 mod folding;
