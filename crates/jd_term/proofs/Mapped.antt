@@ -5,7 +5,7 @@ use Rattle.std.specs.declared.result.Result.{Result}
 use Rattle.jd_base.specs.declared.memory.NoMemory.{NoMemory}
 use Rattle.jd_term.specs.declared.formula.Formula.{Formula}
 use Rattle.jd_term.specs.Makers.{GivesBoxedFormula, GivesFormula, with_formulas, with_terms}
-use Rattle.jd_term.specs.Formulas.{PlainFormula, And, Or, Implies, Iff, Equal, Less, LessOrEqual, Invariant, formula_view}
+use Rattle.jd_term.specs.Formulas.{PlainFormula, And, Or, Implies, Equal, Less, LessOrEqual, formula_view}
 use Rattle.jd_term.specs.Maps.{LeafMap, map_formula, map_term}
 use Rattle.jd_term.specs.Terms.{PlainTerm}
 
