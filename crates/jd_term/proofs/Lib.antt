@@ -1,3 +1,5 @@
+pub mod Capping
 pub mod Depths
 pub mod Leafwise
 pub mod Mapped
+pub mod Related

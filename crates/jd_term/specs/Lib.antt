@@ -1,8 +1,10 @@
 pub mod Terms
-pub mod TermSizes
 pub mod TermViews
 pub mod Formulas
+pub mod Folds
+pub mod TermSizes
 pub mod FormulaSizes
+pub mod Capped
 pub mod Occurs
 pub mod Shifts
 pub mod Substitutions

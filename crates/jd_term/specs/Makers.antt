@@ -1,7 +1,7 @@
 -- Trees made of parts that may be missing.
 use Rattle.std.specs.Prelude.{IfOk, ◌≡◌, map}
+use Rattle.std.specs.Global.{Box}
 use Rattle.std.specs.declared.result.Result.{Result}
-use Rattle.std.specs.declared.vec.Vec.{Vec}
 use Rattle.jd_base.specs.declared.memory.NoMemory.{NoMemory}
 use Rattle.jd_syntax.specs.Codes.{PlainCode}
 use Rattle.jd_syntax.specs.CodeViews.{code_view}
@@ -29,6 +29,16 @@ GivesCode r x = IfOk r (λ c. code_view c ≡ x)
 
 abbrev pub GivesFormula : Result Formula NoMemory → PlainFormula → Type 0
 GivesFormula r x = IfOk r (λ f. formula_view f ≡ x)
+
+-- the same of a tree in a box
+abbrev pub GivesBoxedTerm : Result (Box Term) NoMemory → PlainTerm → Type 0
+GivesBoxedTerm r x = IfOk r (λ b. term_view b.value ≡ x)
+
+abbrev pub GivesBoxedLoc : Result (Box Loc) NoMemory → PlainLoc → Type 0
+GivesBoxedLoc r x = IfOk r (λ b. loc_view b.value ≡ x)
+
+abbrev pub GivesBoxedFormula : Result (Box Formula) NoMemory → PlainFormula → Type 0
+GivesBoxedFormula r x = IfOk r (λ b. formula_view b.value ≡ x)
 
 -- nothing stands inside
 abbrev pub IsLeaf : PlainTerm → Type 0

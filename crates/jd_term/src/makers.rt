@@ -6,8 +6,10 @@ ghost use Rattle.jd_term.specs.Makers.{GivesCode, GivesFormula, GivesLoc, GivesT
 ghost use Rattle.jd_term.specs.Formulas.{InLocations, Modal, Pairs, PlainFormula, Updated, formula_view};
 ghost use Rattle.jd_term.specs.Terms.{Anon, Arithmetic, Create, ElementRange, PlainLoc, PlainTerm, Select, Single, Store, Sum, Union};
 ghost use Rattle.jd_term.specs.TermViews.{const_view, loc_view, term_view};
-ghost use Rattle.std.specs.Prelude.{◌≡◌, IfOk, Ok};
+ghost use Rattle.std.specs.Prelude.{◌≡◌, IfOk};
 
+use crate::boxes;
+use crate::boxes::{boxed, boxed_formula, boxed_loc};
 use crate::formula::{Formula, Modality, Update};
 use crate::term::{ArithmeticOp, ConstId, Loc, Term};
 use jd_base::{NoMemory, Sort, both, copy_bytes};
@@ -25,24 +27,6 @@ impl ConstId {
             sort: self.sort,
         })
     }
-}
-
-fn boxed(alloc: Global, t: Result<Term, NoMemory>) -> Result<Box<Term>, NoMemory>
-    ensures { IfOk result (λ b. t ≡ Ok b.value) }
-{
-    Ok(Box::new(alloc, t?)?)
-}
-
-fn boxed_loc(alloc: Global, l: Result<Loc, NoMemory>) -> Result<Box<Loc>, NoMemory>
-    ensures { IfOk result (λ b. l ≡ Ok b.value) }
-{
-    Ok(Box::new(alloc, l?)?)
-}
-
-fn boxed_formula(alloc: Global, f: Result<Formula, NoMemory>) -> Result<Box<Formula>, NoMemory>
-    ensures { IfOk result (λ b. f ≡ Ok b.value) }
-{
-    Ok(Box::new(alloc, f?)?)
 }
 
 /// A copy of a term with nothing inside.
@@ -66,13 +50,7 @@ pub fn copy_leaf(alloc: Global, t: &Term) -> Result<Term, NoMemory>
 pub fn with_one(alloc: Global, like: &Term, a: Result<Term, NoMemory>) -> Result<Term, NoMemory>
     ensures { (x : PlainTerm) → GivesTerm a x → GivesTerm result (with_one (term_view like.now) x) }
 {
-    let a = boxed(alloc, a)?;
-    match like {
-        Term::Negation(_) => Ok(Term::Negation(a)),
-        Term::Wrap(_) => Ok(Term::Wrap(a)),
-        Term::Length(_) => Ok(Term::Length(a)),
-        _ => Ok(Term::ElementField(a)),
-    }
+    boxes::with_one(like, boxed(alloc, a))
 }
 
 /// An operation on two integers: `(add a b)` and the like.
@@ -84,8 +62,7 @@ pub fn arithmetic(
 ) -> Result<Term, NoMemory>
     ensures { (x y : PlainTerm) → GivesTerm a x → GivesTerm b y → GivesTerm result (Arithmetic operation x y) }
 {
-    let (a, b) = both(boxed(alloc, a), boxed(alloc, b))?;
-    Ok(Term::Arithmetic(operation, a, b))
+    boxes::arithmetic(operation, boxed(alloc, a), boxed(alloc, b))
 }
 
 /// The heap in which an object is created: `(create a b)`.
@@ -96,8 +73,7 @@ pub fn create(
 ) -> Result<Term, NoMemory>
     ensures { (x y : PlainTerm) → GivesTerm a x → GivesTerm b y → GivesTerm result (Create x y) }
 {
-    let (a, b) = both(boxed(alloc, a), boxed(alloc, b))?;
-    Ok(Term::Create(a, b))
+    boxes::create(boxed(alloc, a), boxed(alloc, b))
 }
 
 /// What a heap holds at a field of an object: `(selI a b c)` and the like.
@@ -110,8 +86,7 @@ pub fn select(
 ) -> Result<Term, NoMemory>
     ensures { (x y z : PlainTerm) → GivesTerm a x → GivesTerm b y → GivesTerm c z → GivesTerm result (Select sort x y z) }
 {
-    let (a, (b, c)) = both(boxed(alloc, a), both(boxed(alloc, b), boxed(alloc, c)))?;
-    Ok(Term::Select(sort, a, b, c))
+    boxes::select(sort, boxed(alloc, a), boxed(alloc, b), boxed(alloc, c))
 }
 
 /// A bounded sum: `(bsum a b c)`; `c` stands below one more binder.
@@ -123,8 +98,7 @@ pub fn sum(
 ) -> Result<Term, NoMemory>
     ensures { (x y z : PlainTerm) → GivesTerm a x → GivesTerm b y → GivesTerm c z → GivesTerm result (Sum x y z) }
 {
-    let (a, (b, c)) = both(boxed(alloc, a), both(boxed(alloc, b), boxed(alloc, c)))?;
-    Ok(Term::Sum(a, b, c))
+    boxes::sum(boxed(alloc, a), boxed(alloc, b), boxed(alloc, c))
 }
 
 /// The heap in which a location is written: `(store a b c d)`.
@@ -137,11 +111,12 @@ pub fn store(
 ) -> Result<Term, NoMemory>
     ensures { (x y z w : PlainTerm) → GivesTerm a x → GivesTerm b y → GivesTerm c z → GivesTerm d w → GivesTerm result (Store x y z w) }
 {
-    let ((a, b), (c, d)) = both(
-        both(boxed(alloc, a), boxed(alloc, b)),
-        both(boxed(alloc, c), boxed(alloc, d)),
-    )?;
-    Ok(Term::Store(a, b, c, d))
+    boxes::store(
+        boxed(alloc, a),
+        boxed(alloc, b),
+        boxed(alloc, c),
+        boxed(alloc, d),
+    )
 }
 
 /// The heap that is as another at locations: `(anon a l b)`.
@@ -153,19 +128,14 @@ pub fn anon(
 ) -> Result<Term, NoMemory>
     ensures { (x : PlainTerm) (y : PlainLoc) (z : PlainTerm) → GivesTerm a x → GivesLoc l y → GivesTerm b z → GivesTerm result (Anon x y z) }
 {
-    let (a, (l, b)) = both(boxed(alloc, a), both(boxed_loc(alloc, l), boxed(alloc, b)))?;
-    Ok(Term::Anon(a, l, b))
+    boxes::anon(boxed(alloc, a), boxed_loc(alloc, l), boxed(alloc, b))
 }
 
 /// The form of `like` with another object; of a form that has none, `(arrall a)`.
 pub fn with_object(alloc: Global, like: &Loc, a: Result<Term, NoMemory>) -> Result<Loc, NoMemory>
     ensures { (x : PlainTerm) → GivesTerm a x → GivesLoc result (with_object (loc_view like.now) x) }
 {
-    let a = boxed(alloc, a)?;
-    match like {
-        Loc::ObjectFields(_) => Ok(Loc::ObjectFields(a)),
-        _ => Ok(Loc::ArrayElements(a)),
-    }
+    boxes::with_object(like, boxed(alloc, a))
 }
 
 /// One location: `(loc a b)`.
@@ -176,8 +146,7 @@ pub fn single(
 ) -> Result<Loc, NoMemory>
     ensures { (x y : PlainTerm) → GivesTerm a x → GivesTerm b y → GivesLoc result (Single x y) }
 {
-    let (a, b) = both(boxed(alloc, a), boxed(alloc, b))?;
-    Ok(Loc::Single(a, b))
+    boxes::single(boxed(alloc, a), boxed(alloc, b))
 }
 
 /// The elements of an array between two indices: `(arr a b c)`.
@@ -189,8 +158,7 @@ pub fn element_range(
 ) -> Result<Loc, NoMemory>
     ensures { (x y z : PlainTerm) → GivesTerm a x → GivesTerm b y → GivesTerm c z → GivesLoc result (ElementRange x y z) }
 {
-    let (a, (b, c)) = both(boxed(alloc, a), both(boxed(alloc, b), boxed(alloc, c)))?;
-    Ok(Loc::ElementRange(a, b, c))
+    boxes::element_range(boxed(alloc, a), boxed(alloc, b), boxed(alloc, c))
 }
 
 /// What is in one of two location sets: `(union l m)`.
@@ -201,8 +169,7 @@ pub fn union(
 ) -> Result<Loc, NoMemory>
     ensures { (x y : PlainLoc) → GivesLoc l x → GivesLoc m y → GivesLoc result (Union x y) }
 {
-    let (l, m) = both(boxed_loc(alloc, l), boxed_loc(alloc, m))?;
-    Ok(Loc::Union(l, m))
+    boxes::union(boxed_loc(alloc, l), boxed_loc(alloc, m))
 }
 
 /// The form of `like` with another formula inside; of a form that has not one alone, `(not a)`.
@@ -213,12 +180,7 @@ pub fn with_formula(
 ) -> Result<Formula, NoMemory>
     ensures { (x : PlainFormula) → GivesFormula a x → GivesFormula result (with_formula (formula_view like.now) x) }
 {
-    let a = boxed_formula(alloc, a)?;
-    match like {
-        Formula::Forall(s, _) => Ok(Formula::Forall(*s, a)),
-        Formula::Exists(s, _) => Ok(Formula::Exists(*s, a)),
-        _ => Ok(Formula::Not(a)),
-    }
+    boxes::with_formula(like, boxed_formula(alloc, a))
 }
 
 /// The form of `like` with two other formulas inside; of a form that has not two, `(iff a b)`.
@@ -230,13 +192,7 @@ pub fn with_formulas(
 ) -> Result<Formula, NoMemory>
     ensures { (x y : PlainFormula) → GivesFormula a x → GivesFormula b y → GivesFormula result (with_formulas (formula_view like.now) x y) }
 {
-    let (a, b) = both(boxed_formula(alloc, a), boxed_formula(alloc, b))?;
-    match like {
-        Formula::And(_, _) => Ok(Formula::And(a, b)),
-        Formula::Or(_, _) => Ok(Formula::Or(a, b)),
-        Formula::Implies(_, _) => Ok(Formula::Implies(a, b)),
-        _ => Ok(Formula::Iff(a, b)),
-    }
+    boxes::with_formulas(like, boxed_formula(alloc, a), boxed_formula(alloc, b))
 }
 
 /// The form of `like` with two other terms; of a form that has not two, `(inv a b)`.
@@ -277,8 +233,7 @@ pub fn updated(
 ) -> Result<Formula, NoMemory>
     ensures { (x : Pairs) (y : PlainFormula) → GivesUpdate u x → GivesFormula a y → GivesFormula result (Updated x y) }
 {
-    let (u, a) = both(u, boxed_formula(alloc, a))?;
-    Ok(Formula::Updated(u, a))
+    boxes::updated(u, boxed_formula(alloc, a))
 }
 
 /// A formula behind code: `(box c a)` or `(dia c a)`.
@@ -290,8 +245,7 @@ pub fn modal(
 ) -> Result<Formula, NoMemory>
     ensures { (x : PlainCode) (y : PlainFormula) → GivesCode c x → GivesFormula a y → GivesFormula result (Modal m x y) }
 {
-    let (c, a) = both(c, boxed_formula(alloc, a))?;
-    Ok(Formula::Modal(m, c, a))
+    boxes::modal(m, c, boxed_formula(alloc, a))
 }
 
 /// That a location is in a set: `(in a b l)`.

@@ -1,9 +1,9 @@
 -- Formulas without binders: no shift is made under them, and simplified they have none.
-use Rattle.std.proofs.Common.{◌≡◌, Bool, true, ◌&&◌, [], ◌∷◌, get_or, refl, Ordering, Less as Below, Equal as Same, Greater as Above}
+use Rattle.std.proofs.Common.{◌≡◌, Bool, true, ◌&&◌, [], ◌∷◌, refl, Ordering, Less as Below, Equal as Same, Greater as Above}
 use Rattle.std.specs.List.{filter}
 use Rattle.std.specs.Ordering.{match_ordering}
 use Rattle.std.proofs.lemmas.Bool.{and_from, and_parts, cond_both, false≢true}
-use Rattle.std.proofs.lemmas.List.Sums.{AllPass-from_list_all}
+use Rattle.std.proofs.lemmas.List.Elements.{All-cons, All-nil}
 use Rattle.jd_syntax.specs.Names.{Name}
 use Rattle.jd_syntax.specs.CodeNames.{same_name}
 use Rattle.jd_syntax.specs.Codes.{PlainCode}
@@ -27,11 +27,11 @@ mutual
   no_sum_fits q (Negation t) e = no_sum_fits q t e
   no_sum_fits q (Wrap t) e = no_sum_fits q t e
   no_sum_fits q (Length o) e = no_sum_fits q o e
-  no_sum_fits q (Select s h o f) e = let b0 = and_parts (has_no_sum h) (has_no_sum o && has_no_sum f) e in let b1 = and_parts (has_no_sum o) (has_no_sum f) b0.1 in (no_sum_fits q h b0.0, no_sum_fits q o b1.0, no_sum_fits q f b1.1)
+  no_sum_fits q (Select s h o f) e = let b0 = and_parts (has_no_sum h && has_no_sum o) (has_no_sum f) e in let b1 = and_parts (has_no_sum h) (has_no_sum o) b0.0 in (no_sum_fits q h b1.0, no_sum_fits q o b1.1, no_sum_fits q f b0.1)
   no_sum_fits q (Sum t u v) e = absurd (false≢true e)
-  no_sum_fits q (Store h o f t) e = let b0 = and_parts (has_no_sum h) (has_no_sum o && (has_no_sum f && has_no_sum t)) e in let b1 = and_parts (has_no_sum o) (has_no_sum f && has_no_sum t) b0.1 in let b2 = and_parts (has_no_sum f) (has_no_sum t) b1.1 in (no_sum_fits q h b0.0, no_sum_fits q o b1.0, no_sum_fits q f b2.0, no_sum_fits q t b2.1)
+  no_sum_fits q (Store h o f t) e = let b0 = and_parts ((has_no_sum h && has_no_sum o) && has_no_sum f) (has_no_sum t) e in let b1 = and_parts (has_no_sum h && has_no_sum o) (has_no_sum f) b0.0 in let b2 = and_parts (has_no_sum h) (has_no_sum o) b1.0 in (no_sum_fits q h b2.0, no_sum_fits q o b2.1, no_sum_fits q f b1.1, no_sum_fits q t b0.1)
   no_sum_fits q (Create h o) e = let b0 = and_parts (has_no_sum h) (has_no_sum o) e in (no_sum_fits q h b0.0, no_sum_fits q o b0.1)
-  no_sum_fits q (Anon h l g) e = let b0 = and_parts (has_no_sum h) (loc_has_no_sum l && has_no_sum g) e in let b1 = and_parts (loc_has_no_sum l) (has_no_sum g) b0.1 in (no_sum_fits q h b0.0, no_sum_fits_loc q l b1.0, no_sum_fits q g b1.1)
+  no_sum_fits q (Anon h l g) e = let b0 = and_parts (has_no_sum h && loc_has_no_sum l) (has_no_sum g) e in let b1 = and_parts (has_no_sum h) (loc_has_no_sum l) b0.0 in (no_sum_fits q h b1.0, no_sum_fits_loc q l b1.1, no_sum_fits q g b0.1)
   no_sum_fits q (NamedField f) e = tt
   no_sum_fits q CreatedField e = tt
   no_sum_fits q (ElementField t) e = no_sum_fits q t e
@@ -42,12 +42,15 @@ mutual
   no_sum_fits_loc q (Single o f) e = let b0 = and_parts (has_no_sum o) (has_no_sum f) e in (no_sum_fits q o b0.0, no_sum_fits q f b0.1)
   no_sum_fits_loc q (ObjectFields o) e = no_sum_fits q o e
   no_sum_fits_loc q (ArrayElements o) e = no_sum_fits q o e
-  no_sum_fits_loc q (ElementRange o t u) e = let b0 = and_parts (has_no_sum o) (has_no_sum t && has_no_sum u) e in let b1 = and_parts (has_no_sum t) (has_no_sum u) b0.1 in (no_sum_fits q o b0.0, no_sum_fits q t b1.0, no_sum_fits q u b1.1)
+  no_sum_fits_loc q (ElementRange o t u) e = let b0 = and_parts (has_no_sum o && has_no_sum t) (has_no_sum u) e in let b1 = and_parts (has_no_sum o) (has_no_sum t) b0.0 in (no_sum_fits q o b1.0, no_sum_fits q t b1.1, no_sum_fits q u b0.1)
   no_sum_fits_loc q (Union l m) e = let b0 = and_parts (loc_has_no_sum l) (loc_has_no_sum m) e in (no_sum_fits_loc q l b0.0, no_sum_fits_loc q m b0.1)
 
 -- the right sides of an update without sums may be replaced
 pub no_sum_joins : (q u : Pairs) → pairs_have_no_sum u ≡ true → JoinFits q u
-no_sum_joins q u e = λ k d lt. no_sum_fits q (get_or u k d).1 (AllPass-from_list_all (λ p. has_no_sum p.1) u e k d lt)
+no_sum_joins q [] e = All-nil (λ (p : Name × PlainTerm). ReplaceFits q p.1)
+no_sum_joins q (p ∷ u) e =
+    let b = and_parts (has_no_sum p.1) (pairs_have_no_sum u) e in
+    All-cons (λ (r : Name × PlainTerm). ReplaceFits q r.1) p u (no_sum_fits q p.1 b.0) (no_sum_joins q u b.1)
 
 -- whatever a formula without binders is put under, no shift is made
 pub binderless_fits_any : (q : Pairs) (f : PlainFormula) → has_no_binder f ≡ true → PushFits q f
@@ -65,7 +68,7 @@ binderless_fits_any q (Forall s a) e = absurd (false≢true e)
 binderless_fits_any q (Exists s a) e = absurd (false≢true e)
 binderless_fits_any q (Updated u a) e = let b0 = and_parts (pairs_have_no_sum u) (has_no_binder a) e in (no_sum_joins q u b0.0, binderless_fits_any (joined q u q) a b0.1)
 binderless_fits_any q (Modal m c a) e = tt
-binderless_fits_any q (InLocations o f l) e = let b0 = and_parts (has_no_sum o) (has_no_sum f && loc_has_no_sum l) e in let b1 = and_parts (has_no_sum f) (loc_has_no_sum l) b0.1 in (no_sum_fits q o b0.0, no_sum_fits q f b1.0, no_sum_fits_loc q l b1.1)
+binderless_fits_any q (InLocations o f l) e = let b0 = and_parts (has_no_sum o && has_no_sum f) (loc_has_no_sum l) e in let b1 = and_parts (has_no_sum o) (has_no_sum f) b0.0 in (no_sum_fits q o b1.0, no_sum_fits q f b1.1, no_sum_fits_loc q l b0.1)
 binderless_fits_any q (InInt t) e = no_sum_fits q t e
 binderless_fits_any q (WellFormed h) e = no_sum_fits q h e
 binderless_fits_any q (Invariant h o) e = let b0 = and_parts (has_no_sum h) (has_no_sum o) e in (no_sum_fits q h b0.0, no_sum_fits q o b0.1)
@@ -95,11 +98,11 @@ mutual
   no_sum_replaced q (Negation t) none e = no_sum_replaced q t none e
   no_sum_replaced q (Wrap t) none e = no_sum_replaced q t none e
   no_sum_replaced q (Length o) none e = no_sum_replaced q o none e
-  no_sum_replaced q (Select s h o f) none e = let b0 = and_parts (has_no_sum h) (has_no_sum o && has_no_sum f) e in let b1 = and_parts (has_no_sum o) (has_no_sum f) b0.1 in and_from (has_no_sum (replace q h)) (has_no_sum (replace q o) && has_no_sum (replace q f)) (no_sum_replaced q h none b0.0) (and_from (has_no_sum (replace q o)) (has_no_sum (replace q f)) (no_sum_replaced q o none b1.0) (no_sum_replaced q f none b1.1))
+  no_sum_replaced q (Select s h o f) none e = let b0 = and_parts (has_no_sum h && has_no_sum o) (has_no_sum f) e in let b1 = and_parts (has_no_sum h) (has_no_sum o) b0.0 in and_from (has_no_sum (replace q h) && has_no_sum (replace q o)) (has_no_sum (replace q f)) (and_from (has_no_sum (replace q h)) (has_no_sum (replace q o)) (no_sum_replaced q h none b1.0) (no_sum_replaced q o none b1.1)) (no_sum_replaced q f none b0.1)
   no_sum_replaced q (Sum t u v) none e = absurd (false≢true e)
-  no_sum_replaced q (Store h o f t) none e = let b0 = and_parts (has_no_sum h) (has_no_sum o && (has_no_sum f && has_no_sum t)) e in let b1 = and_parts (has_no_sum o) (has_no_sum f && has_no_sum t) b0.1 in let b2 = and_parts (has_no_sum f) (has_no_sum t) b1.1 in and_from (has_no_sum (replace q h)) (has_no_sum (replace q o) && (has_no_sum (replace q f) && has_no_sum (replace q t))) (no_sum_replaced q h none b0.0) (and_from (has_no_sum (replace q o)) (has_no_sum (replace q f) && has_no_sum (replace q t)) (no_sum_replaced q o none b1.0) (and_from (has_no_sum (replace q f)) (has_no_sum (replace q t)) (no_sum_replaced q f none b2.0) (no_sum_replaced q t none b2.1)))
+  no_sum_replaced q (Store h o f t) none e = let b0 = and_parts ((has_no_sum h && has_no_sum o) && has_no_sum f) (has_no_sum t) e in let b1 = and_parts (has_no_sum h && has_no_sum o) (has_no_sum f) b0.0 in let b2 = and_parts (has_no_sum h) (has_no_sum o) b1.0 in and_from ((has_no_sum (replace q h) && has_no_sum (replace q o)) && has_no_sum (replace q f)) (has_no_sum (replace q t)) (and_from (has_no_sum (replace q h) && has_no_sum (replace q o)) (has_no_sum (replace q f)) (and_from (has_no_sum (replace q h)) (has_no_sum (replace q o)) (no_sum_replaced q h none b2.0) (no_sum_replaced q o none b2.1)) (no_sum_replaced q f none b1.1)) (no_sum_replaced q t none b0.1)
   no_sum_replaced q (Create h o) none e = let b0 = and_parts (has_no_sum h) (has_no_sum o) e in and_from (has_no_sum (replace q h)) (has_no_sum (replace q o)) (no_sum_replaced q h none b0.0) (no_sum_replaced q o none b0.1)
-  no_sum_replaced q (Anon h l g) none e = let b0 = and_parts (has_no_sum h) (loc_has_no_sum l && has_no_sum g) e in let b1 = and_parts (loc_has_no_sum l) (has_no_sum g) b0.1 in and_from (has_no_sum (replace q h)) (loc_has_no_sum (replace_loc q l) && has_no_sum (replace q g)) (no_sum_replaced q h none b0.0) (and_from (loc_has_no_sum (replace_loc q l)) (has_no_sum (replace q g)) (no_sum_replaced_loc q l none b1.0) (no_sum_replaced q g none b1.1))
+  no_sum_replaced q (Anon h l g) none e = let b0 = and_parts (has_no_sum h && loc_has_no_sum l) (has_no_sum g) e in let b1 = and_parts (has_no_sum h) (loc_has_no_sum l) b0.0 in and_from (has_no_sum (replace q h) && loc_has_no_sum (replace_loc q l)) (has_no_sum (replace q g)) (and_from (has_no_sum (replace q h)) (loc_has_no_sum (replace_loc q l)) (no_sum_replaced q h none b1.0) (no_sum_replaced_loc q l none b1.1)) (no_sum_replaced q g none b0.1)
   no_sum_replaced q (NamedField f) none e = refl
   no_sum_replaced q CreatedField none e = refl
   no_sum_replaced q (ElementField t) none e = no_sum_replaced q t none e
@@ -110,7 +113,7 @@ mutual
   no_sum_replaced_loc q (Single o f) none e = let b0 = and_parts (has_no_sum o) (has_no_sum f) e in and_from (has_no_sum (replace q o)) (has_no_sum (replace q f)) (no_sum_replaced q o none b0.0) (no_sum_replaced q f none b0.1)
   no_sum_replaced_loc q (ObjectFields o) none e = no_sum_replaced q o none e
   no_sum_replaced_loc q (ArrayElements o) none e = no_sum_replaced q o none e
-  no_sum_replaced_loc q (ElementRange o t u) none e = let b0 = and_parts (has_no_sum o) (has_no_sum t && has_no_sum u) e in let b1 = and_parts (has_no_sum t) (has_no_sum u) b0.1 in and_from (has_no_sum (replace q o)) (has_no_sum (replace q t) && has_no_sum (replace q u)) (no_sum_replaced q o none b0.0) (and_from (has_no_sum (replace q t)) (has_no_sum (replace q u)) (no_sum_replaced q t none b1.0) (no_sum_replaced q u none b1.1))
+  no_sum_replaced_loc q (ElementRange o t u) none e = let b0 = and_parts (has_no_sum o && has_no_sum t) (has_no_sum u) e in let b1 = and_parts (has_no_sum o) (has_no_sum t) b0.0 in and_from (has_no_sum (replace q o) && has_no_sum (replace q t)) (has_no_sum (replace q u)) (and_from (has_no_sum (replace q o)) (has_no_sum (replace q t)) (no_sum_replaced q o none b1.0) (no_sum_replaced q t none b1.1)) (no_sum_replaced q u none b0.1)
   no_sum_replaced_loc q (Union l m) none e = let b0 = and_parts (loc_has_no_sum l) (loc_has_no_sum m) e in and_from (loc_has_no_sum (replace_loc q l)) (loc_has_no_sum (replace_loc q m)) (no_sum_replaced_loc q l none b0.0) (no_sum_replaced_loc q m none b0.1)
 
 -- nor does an update after another
@@ -166,7 +169,7 @@ binderless_pushed_any q (Forall s a) none e = absurd (false≢true e)
 binderless_pushed_any q (Exists s a) none e = absurd (false≢true e)
 binderless_pushed_any q (Updated u a) none e = let b0 = and_parts (pairs_have_no_sum u) (has_no_binder a) e in binderless_pushed_any (joined q u q) a (no_sum_joined q u q none b0.0 none) b0.1
 binderless_pushed_any q (Modal m c a) none e = no_binder_under (kept q c a) (Modal m c a) (no_sum_kept q c a none) e
-binderless_pushed_any q (InLocations o f l) none e = let b0 = and_parts (has_no_sum o) (has_no_sum f && loc_has_no_sum l) e in let b1 = and_parts (has_no_sum f) (loc_has_no_sum l) b0.1 in and_from (has_no_sum (replace q o)) (has_no_sum (replace q f) && loc_has_no_sum (replace_loc q l)) (no_sum_replaced q o none b0.0) (and_from (has_no_sum (replace q f)) (loc_has_no_sum (replace_loc q l)) (no_sum_replaced q f none b1.0) (no_sum_replaced_loc q l none b1.1))
+binderless_pushed_any q (InLocations o f l) none e = let b0 = and_parts (has_no_sum o && has_no_sum f) (loc_has_no_sum l) e in let b1 = and_parts (has_no_sum o) (has_no_sum f) b0.0 in and_from (has_no_sum (replace q o) && has_no_sum (replace q f)) (loc_has_no_sum (replace_loc q l)) (and_from (has_no_sum (replace q o)) (has_no_sum (replace q f)) (no_sum_replaced q o none b1.0) (no_sum_replaced q f none b1.1)) (no_sum_replaced_loc q l none b0.1)
 binderless_pushed_any q (InInt t) none e = no_sum_replaced q t none e
 binderless_pushed_any q (WellFormed h) none e = no_sum_replaced q h none e
 binderless_pushed_any q (Invariant h o) none e = let b0 = and_parts (has_no_sum h) (has_no_sum o) e in and_from (has_no_sum (replace q h)) (has_no_sum (replace q o)) (no_sum_replaced q h none b0.0) (no_sum_replaced q o none b0.1)

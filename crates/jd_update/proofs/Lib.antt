@@ -1,3 +1,4 @@
 pub mod Binderless
+pub mod Filtered
 pub mod Like
 pub mod Places

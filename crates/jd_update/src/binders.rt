@@ -1,60 +1,60 @@
 //! Formulas without binders.
 
 ghost use Rattle.jd_term.specs.Formulas.{formula_view, pair_view};
-ghost use Rattle.jd_term.specs.TermViews.{loc_view, term_view};
-ghost use Rattle.jd_update.specs.Binderless.{has_no_binder, has_no_sum, loc_has_no_sum, pairs_have_no_sum};
+ghost use Rattle.jd_update.specs.Binderless.{has_no_binder, no_binders, pairs_have_no_sum};
 ghost use Rattle.std.specs.Prelude.{◌≡◌, map};
 
-use jd_term::{Elementary, Formula, Loc, Term};
+use jd_syntax::{Code, VarId};
+use jd_term::{Elementary, Formula, Gather, Loc, Term, fold_formula, fold_pairs};
 
-#[cycle(sums)]
-fn has_no_sum(t: &Term) -> bool
-    ensures { result ≡ has_no_sum (term_view t.now) }
-{
-    match t {
-        Term::Number(_)
-        | Term::Boolean(_)
-        | Term::NullTerm
-        | Term::ProgramVariable(_)
-        | Term::Constant(_)
-        | Term::Bound(_, _)
-        | Term::NamedField(_)
-        | Term::CreatedField => true,
-        Term::Sum(_, _, _) => false,
-        Term::Negation(a) | Term::Wrap(a) | Term::Length(a) | Term::ElementField(a) => has_no_sum(
-            a,
-        ),
-        Term::Arithmetic(_, a, b) | Term::Create(a, b) => has_no_sum(a) && has_no_sum(b),
-        Term::Select(_, a, b, c) => has_no_sum(a) && has_no_sum(b) && has_no_sum(c),
-        Term::Store(a, b, c, d) => has_no_sum(a) && has_no_sum(b) && has_no_sum(c) && has_no_sum(d),
-        Term::Anon(a, l, b) => has_no_sum(a) && loc_has_no_sum(l) && has_no_sum(b),
+#[derive(Clone, Copy)]
+struct NoBinders;
+
+impl Gather for NoBinders {
+    type Out = bool;
+
+    ghost gathers = { λ s. no_binders };
+
+    fn none(&self) -> bool {
+        true
     }
-}
 
-#[cycle(sums)]
-fn loc_has_no_sum(l: &Loc) -> bool
-    ensures { result ≡ loc_has_no_sum (loc_view l.now) }
-{
-    match l {
-        Loc::NoLocations | Loc::AllLocations => true,
-        Loc::ObjectFields(a) | Loc::ArrayElements(a) => has_no_sum(a),
-        Loc::Single(a, b) => has_no_sum(a) && has_no_sum(b),
-        Loc::ElementRange(a, b, c) => has_no_sum(a) && has_no_sum(b) && has_no_sum(c),
-        Loc::Union(l, m) => loc_has_no_sum(l) && loc_has_no_sum(m),
+    fn join(&self, a: bool, b: bool) -> bool {
+        a && b
+    }
+
+    fn term(&self, t: &Term, inside: bool) -> bool {
+        match t {
+            Term::Sum(_, _, _) => false,
+            _ => inside,
+        }
+    }
+
+    fn loc(&self, _l: &Loc, inside: bool) -> bool {
+        inside
+    }
+
+    fn formula(&self, f: &Formula, inside: bool) -> bool {
+        match f {
+            Formula::Forall(_, _) | Formula::Exists(_, _) => false,
+            _ => inside,
+        }
+    }
+
+    fn pair(&self, _x: &VarId, inside: bool) -> bool {
+        inside
+    }
+
+    fn code(&self, _c: &Code) -> bool {
+        true
     }
 }
 
 /// Whether there is no bounded sum in the terms of the pairs.
-#[tactic(auto, using(jd_syntax::proofs::Lists::rest))]
 pub fn pairs_have_no_sum(pairs: &[Elementary]) -> bool
     ensures { result ≡ pairs_have_no_sum (map pair_view pairs.now) }
 {
-    for p in pairs {
-        if !has_no_sum(&p.value) {
-            return false;
-        }
-    }
-    true
+    fold_pairs(&NoBinders, pairs)
 }
 
 /// Whether there is no quantifier and no bounded sum in the formula. Such a formula meets what
@@ -62,21 +62,5 @@ pub fn pairs_have_no_sum(pairs: &[Elementary]) -> bool
 pub fn has_no_binder(f: &Formula) -> bool
     ensures { result ≡ has_no_binder (formula_view f.now) }
 {
-    match f {
-        Formula::TrueFormula | Formula::FalseFormula => true,
-        Formula::Forall(_, _) | Formula::Exists(_, _) => false,
-        Formula::Not(a) | Formula::Modal(_, _, a) => has_no_binder(a),
-        Formula::And(a, b) | Formula::Or(a, b) | Formula::Implies(a, b) | Formula::Iff(a, b) =>
-            has_no_binder(a) && has_no_binder(b),
-        Formula::Equal(a, b)
-        | Formula::Less(a, b)
-        | Formula::LessOrEqual(a, b)
-        | Formula::Invariant(a, b) => has_no_sum(a) && has_no_sum(b),
-        Formula::Updated(u, a) => pairs_have_no_sum(&u.pairs) && has_no_binder(a),
-        Formula::InLocations(a, b, l) => has_no_sum(a) && has_no_sum(b) && loc_has_no_sum(l),
-        Formula::InInt(a)
-        | Formula::WellFormed(a)
-        | Formula::IsInstance(_, a)
-        | Formula::IsExactInstance(_, a) => has_no_sum(a),
-    }
+    fold_formula(&NoBinders, f)
 }

@@ -9,11 +9,10 @@ use crate::setting::variable;
 use crate::terms::put_term;
 use crate::texts::{add, found, made, put_if, two_texts};
 use jd_base::{NoMemory, Sort, both};
-use jd_subst::{rename, rename_loc, rename_term, subst, subst_term};
 use jd_syntax::VarId;
 use jd_term::{
-    ConstId, Elementary, Formula, Loc, Term, copy_term, occurs_const, occurs_var, shift, shift_loc,
-    shift_term, sort_of,
+    ConstId, Elementary, Formula, Loc, Term, copy_term, occurs_const, occurs_var, rename,
+    rename_loc, rename_term, shift, shift_loc, shift_term, sort_of, subst, subst_term,
 };
 use jd_tparse::Names;
 use jd_update::replace_term;

@@ -1,4 +1,4 @@
-use Rattle.std.proofs.Common.{ap, refl}
+use Rattle.std.proofs.Common.{refl}
 use Rattle.jd_term.specs.Makers.{with_formulas, with_terms}
 use Rattle.jd_term.specs.Formulas.{formula_view}
 use Rattle.jd_term.specs.TermViews.{term_view}
@@ -7,8 +7,8 @@ use Rattle.jd_term.proofs.mapping.+map_formula.Goals as goal
 
 pub map_formula-returns-in-And : goal.map_formula-returns-in-And
 map_formula-returns-in-And g t c =
-    formulas_like (g.M.Leaves.leaves c.args.m.now) c.args.depth _ _ _ _ _ _ _ _ (of_four (λ f. with_formulas f (formula_view c.in-And.a.value) (formula_view c.in-And.b.value)) c.in-And.is refl refl refl refl) (ap formula_view c.deref-in-And.ensures) (ap formula_view c.deref-in-And-2.ensures) c.with_formulas.ensures c.map_formula-in-And.ensures c.map_formula-in-And-2.ensures
+    formulas_like (g.M.Leaves.leaves c.args.m.now) c.args.depth _ _ _ _ _ _ (of_four (λ f. with_formulas f (formula_view c.in-And.a.value) (formula_view c.in-And.b.value)) c.in-And.is refl refl refl refl) c.with_formulas.ensures c.map_boxed_formula-in-And.ensures c.map_boxed_formula-in-And-2.ensures
 
 pub map_formula-returns-in-Equal : goal.map_formula-returns-in-Equal
 map_formula-returns-in-Equal g t c =
-    terms_like (g.M.Leaves.leaves c.args.m.now) c.args.depth _ _ _ _ _ _ (of_four (λ f. with_terms f (term_view c.in-Equal.a) (term_view c.in-Equal.b)) c.in-Equal.is refl refl refl refl) c.with_terms.ensures c.map_term-in-Equal.ensures c.map_term-in-Equal-2.ensures
+    terms_like (g.M.Leaves.leaves c.args.m.now) c.args.depth _ _ _ _ (of_four (λ f. with_terms f (term_view c.in-Equal.a) (term_view c.in-Equal.b)) c.in-Equal.is refl refl refl refl) c.map_two_terms.ensures

@@ -7,11 +7,12 @@ ghost use Rattle.jd_term.specs.Renamings.{FirstOrder, IsRenaming, both_views, pu
 ghost use Rattle.jd_term.specs.TermViews.{loc_view, term_view};
 ghost use Rattle.std.specs.Prelude.{◌≡◌, IfOk, map};
 
+use crate::formula::Formula;
+use crate::makers::copy_leaf;
+use crate::mapping::{Leaves, map_formula, map_loc, map_term};
+use crate::occurrence::{is_same, is_same_constant};
+use crate::term::{Loc, Term};
 use jd_base::NoMemory;
-use jd_term::{
-    Formula, Leaves, Loc, Term, copy_leaf, is_same, is_same_constant, map_formula, map_loc,
-    map_term,
-};
 use std::alloc::Global;
 
 fn is_same_symbol(s: &Term, t: &Term) -> bool

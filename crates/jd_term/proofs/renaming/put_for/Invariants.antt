@@ -1,4 +1,4 @@
-use Rattle.jd_subst.proofs.renaming.put_for.Given as goal
+use Rattle.jd_term.proofs.renaming.put_for.Given as goal
 use Rattle.jd_term.specs.Renamings.{both_views, put_for}
 use Rattle.jd_term.specs.TermViews.{term_view}
 use Rattle.std.proofs.Common.{◌≡◌, drop, map}

@@ -6,8 +6,12 @@ ghost use Rattle.jd_term.specs.Terms.{sort_of_term};
 ghost use Rattle.jd_term.specs.TermViews.{term_view};
 ghost use Rattle.std.specs.Prelude.{◌≡◌, IfOk};
 
+use crate::formula::Formula;
+use crate::makers::copy_leaf;
+use crate::mapping::{Leaves, counted, map_formula, map_term};
+use crate::shifting::shift_term;
+use crate::term::Term;
 use jd_base::NoMemory;
-use jd_term::{Formula, Leaves, Term, copy_leaf, counted, map_formula, map_term, shift_term};
 use std::alloc::Global;
 
 // The term stands for the index, and so for the index raised by the binders above.

@@ -1,0 +1,7 @@
+use Rattle.std.proofs.Common.{◌∙◌}
+use Rattle.jd_term.specs.TermViews.{term_view}
+use Rattle.jd_term.proofs.Capping.{term_depth_capped}
+use Rattle.jd_term.proofs.sizes.depth_term.Goals as goal
+
+pub returns : goal.returns
+returns c = c.fold_term.ensures ∙ term_depth_capped (term_view c.args.t.now)
