@@ -5,8 +5,8 @@ usage: tables.py CRATE
 
 The crate has src/kinds.rt (the kinds of tokens, from 1), src/names.rt (the names, from 0) and specs/Productions.antt, a list of
 `produces names.NAME (SYMBOL ∷ .. ∷ [])` and `produces_unless names.NAME kinds.KIND (..)`, each on a line, where a SYMBOL is
-`Token kinds.KIND` or `Name names.NAME`; STARTS of src/names.rt has the names that a whole text may be of. This writes src/table.rt and specs/Sets.antt. The checker computes
-whether the table passes and whether it has the productions, so nothing rests on this script.
+`Token kinds.KIND` or `Name names.NAME`; STARTS of src/names.rt has the names that a whole text may be of. This writes src/rules.rt, src/rows.rt
+and specs/Sets.antt. The checker computes whether the table passes and whether it has the productions, so nothing rests on this script.
 """
 import re
 import sys
@@ -126,18 +126,12 @@ class Grammar:
         return witnesses, ranks
 
 
-def write(crate):
-    g = Grammar(crate)
-    width = len(g.kinds) + 1
-    by_number = sorted(g.names, key=g.names.get)
-    number_of = {"": 0, **g.kinds}
-    weights = g.weights()
-    witnesses, ranks = g.witnesses()
+def write_rules(crate, g):
     lines = [
-        "//! The table of the grammar of specs/Productions. Written by docs/tables.py from it.",
+        "//! The productions of specs/Productions as a table. Written by docs/tables.py from it.",
         "",
-        "use jd_grammar::Symbol::{self, Name, Token};",
         "use jd_grammar::Rule;",
+        "use jd_grammar::Symbol::{self, Name, Token};",
         "",
         "/// What stands for the names, one production after the other.",
         f"pub(crate) const SYMBOLS: [Symbol; {sum(len(b) for _, b, _ in g.rules)}] = [",
@@ -147,9 +141,19 @@ def write(crate):
     lines += ["];", "", "/// The productions.", f"pub(crate) const RULES: [Rule; {len(g.rules)}] = ["]
     at = 0
     for a, b, unless in g.rules:
-        lines.append(f"    Rule {{ head: {g.names[a]}, unless: {g.kinds[unless] if unless else 255}, from: {at}, to: {at + len(b)} }},")
+        lines.append(f"    ({g.names[a]}, {g.kinds[unless] if unless else 255}, {at}, {at + len(b)}),")
         at += len(b)
-    lines += ["];", "", "/// By name and kind one more than the number of the production to use, or 0.", f"pub(crate) const ROWS: [u16; {width * len(g.names)}] = ["]
+    lines += ["];"]
+    open(f"{crate}/src/rules.rt", "w").write("\n".join(lines) + "\n")
+
+
+def write_rows(crate, g, width, by_number, number_of, weights):
+    lines = [
+        "//! Which production of specs/Productions is used for a name before a kind of token. Written by docs/tables.py from it.",
+        "",
+        "/// By name and kind one more than the number of the production to use, or 0.",
+        f"pub(crate) const ROWS: [u16; {width * len(g.names)}] = [",
+    ]
     for a in by_number:
         row = [0] * width
         for (b, kind), number in g.rows.items():
@@ -161,7 +165,18 @@ def write(crate):
     lines += ["];", "", "/// By name, whether each tree of it has a token.", f"pub(crate) const SOLID: [bool; {len(g.names)}] = ["]
     lines.append("    " + ", ".join("false" if a in g.nullable else "true" for a in by_number) + ",")
     lines += ["];", "", "/// How many kinds there are, the end among them.", f"pub(crate) const WIDTH: u8 = {width};"]
-    open(f"{crate}/src/table.rt", "w").write("\n".join(lines) + "\n")
+    open(f"{crate}/src/rows.rt", "w").write("\n".join(lines) + "\n")
+
+
+def write(crate):
+    g = Grammar(crate)
+    width = len(g.kinds) + 1
+    by_number = sorted(g.names, key=g.names.get)
+    number_of = {"": 0, **g.kinds}
+    weights = g.weights()
+    witnesses, ranks = g.witnesses()
+    write_rules(crate, g)
+    write_rows(crate, g, width, by_number, number_of, weights)
 
     def mask(kinds):
         return sum(1 << number_of[kind] for kind in kinds)

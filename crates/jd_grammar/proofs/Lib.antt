@@ -9,4 +9,5 @@ pub mod Slices
 pub mod Stacks
 pub mod Readers
 pub mod Walks
-mod Seconds
+mod Counting
+pub mod Walking

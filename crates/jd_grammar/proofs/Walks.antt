@@ -1,7 +1,6 @@
 -- A preorder read from its end.
 use Rattle.std.proofs.Common.{◌≡◌, ℕ, zero, suc, ◌+◌, ◌-◌, ◌<◌, ◌≤◌, List, [], ◌∷◌, ◌++◌, map, take, drop, length, get_or, refl, sym, ap, ap₂, subst, ◌∙◌, arith, drop-cons, length-drop, length-append, append_assoc}
-use Rattle.std.proofs.lemmas.List.{take_all, append-nil, drop-map, reverse-append}
-use Rattle.std.specs.Prelude.{reverse}
+use Rattle.std.proofs.lemmas.List.{take_all, append-nil, drop-map}
 use Rattle.jd_grammar.specs.declared.table.Symbol.{Symbol}
 use Rattle.jd_grammar.specs.declared.table.Symbol.TheVariants.{Token, Name}
 use Rattle.jd_grammar.specs.Grammars.{Production, Forest, Done, Leaf, Node, yield, preorder, IsForest}
@@ -144,21 +143,6 @@ made_values stands show look make (Node p c f) ts (v ∷ vs) by h =
     let below = made_values stands show look make c ts h.0 by h.1 in
     let beside = made_values stands show look make f (drop (length (yield c)) ts) vs by h.3 ∙ ap (values make f) (sym (drop-map look (length (yield c)) ts)) in
     ap₂ (λ x xs. x ∷ xs) (by p ts h.0 v h.2 ∙ ap (make p (map look ts)) below) beside
-
--- the value on top of the stack in the end is the tree's
-pub top_stands : {T V : Type 0} (count : ℕ → ℕ) (stands : Stands T V) (t : Rooted) (order : List ℕ) (ts : List T) (n : ℕ) (items rest : List V) (x : V) → IsReadAs t count order n → Evaluates count stands order ts (reverse items) → items ≡ rest ++ x ∷ [] → StandFor stands t.forest ts (x ∷ [])
-top_stands count stands t order ts n items rest x is h e =
-    let r = forest_values count stands t.productions t.forest t.name ts (reverse items) is.fits is.tree (subst (λ es. Evaluates count stands es ts (reverse items)) (sym is.order_is) h) in
-    let top : x ∷ reverse rest ≡ r.0 ∷ [] = sym (reverse-append rest (x ∷ [])) ∙ (sym (ap reverse e) ∙ r.1) in
-    subst (StandFor stands t.forest ts) (sym (ap (take 1) top)) r.2
-
--- there is one
-pub some_stands : {T V : Type 0} (count : ℕ → ℕ) (stands : Stands T V) (t : Rooted) (order : List ℕ) (ts : List T) (n k : ℕ) (items : List V) → IsReadAs t count order n → Evaluates count stands order ts (reverse items) → k ≡ length items → k ≡ 0 → ⊥
-some_stands count stands t order ts n k [] is h e z =
-    let r = forest_values count stands t.productions t.forest t.name ts [] is.fits is.tree (subst (λ es. Evaluates count stands es ts []) (sym is.order_is) h) in
-    let none : 0 ≡ 1 + 0 = ap length r.1 ∙ omega arith in
-    omega (arith, none)
-some_stands count stands t order ts n k (x ∷ items) is h e z = omega (arith, e, z)
 
 pub leaves_are : (t : Rooted) (count : ℕ → ℕ) (order : List ℕ) (n : ℕ) → IsReadAs t count order n → leaves order ≡ n
 leaves_are t count order n is = sym (ap leaves is.order_is) ∙ (leaves-preorder t.forest ∙ is.tokens)

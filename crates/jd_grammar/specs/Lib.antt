@@ -5,3 +5,4 @@ pub mod Tests
 pub mod Readings
 pub mod Moves
 pub mod Nodes
+pub mod Counted

@@ -1,6 +1,6 @@
 -- What trees stand for, where a relation says what a node may stand for; and the same of a preorder.
 use Rattle.std.specs.Prelude.{◌≡◌, ℕ, zero, suc, ◌+◌, List, [], ◌∷◌, length, take, drop}
-use Rattle.jd_grammar.specs.declared.fold.NodeParts.{NodeParts}
+use Rattle.jd_grammar.specs.declared.piles.NodeParts.{NodeParts}
 use Rattle.jd_grammar.specs.declared.table.Symbol.TheVariants.{Name}
 use Rattle.jd_grammar.specs.Folds.{AritiesFit}
 use Rattle.jd_grammar.specs.Grammars.{Forest, Done, Leaf, Node, yield, preorder, IsForest, Production}

@@ -2,7 +2,6 @@
 use Rattle.std.specs.Prelude.{ℕ, zero, suc, ◌+◌, ◌*◌, List, map, not, ◌&&◌, cond, nat_eq, nat_lt, Option, Some, None, slice_range, slice_index, slice_index_or, Bool, false}
 use Rattle.std.specs.List.{slice_get}
 use Rattle.jd_grammar.specs.declared.table.Symbol.{Symbol}
-use Rattle.jd_grammar.specs.declared.table.Rule.{Rule}
 use Rattle.jd_grammar.specs.declared.table.Table.{Table}
 use Rattle.jd_grammar.specs.Grammars.{Production}
 
@@ -16,8 +15,8 @@ pub record PlainTable : Type 0 where
   pub weights : List ℕ
   pub solid : List Bool
 
-abbrev pub production : List Symbol → Rule → Production
-production symbols r = record { head = r.head; unless = r.unless; body = slice_range symbols r.from r.to }
+abbrev pub production : List Symbol → ℕ × ℕ × ℕ × ℕ → Production
+production symbols r = record { head = r.0; unless = r.1; body = slice_range symbols r.2 r.3 }
 
 abbrev pub plain : Table → PlainTable
 plain t = record {

@@ -4,10 +4,13 @@
 mod fold;
 mod laws;
 mod machine;
+mod piles;
 mod reading;
 mod table;
+mod walk;
 
-pub use fold::{NodeParts, Nodes, drop_second, put, take_parts, value_of};
+pub use fold::{Nodes, value_of};
 pub use laws::{one_order, one_tree};
+pub use piles::{Blank, NodeParts, Pile, Piles};
 pub use reading::{Refusal, parse};
 pub use table::{Rule, Symbol, Table};

@@ -6,6 +6,7 @@ ghost use Rattle.jd_grammar.specs.Tests.{IsLl1};
 
 use crate::table::{Symbol, Table, choose};
 use jd_base::NoMemory;
+use jd_lists::put;
 use std::alloc::Global;
 
 /// The symbols that are still to come, the next one last, and the preorder so far.
@@ -15,17 +16,6 @@ pub(crate) struct Machine {
     pub(crate) order: Vec<u16>,
 }
 
-// Puts an item behind others. Room is made apart from it, so that little is left to do where there is some.
-fn add<T: Copy>(items: &mut Vec<T>, item: T) -> Result<(), NoMemory>
-    ensures { OnOk result (items.new.items ≡ items.old.items ++ item ∷ []) }
-{
-    if items.len() == items.capacity() {
-        items.reserve(1)?;
-    }
-    items.push_reserved(item);
-    Ok(())
-}
-
 // Puts symbols onto a stack, the first one last.
 fn push_all(stack: &mut Vec<Symbol>, symbols: &[Symbol]) -> Result<(), NoMemory>
     ensures { OnOk result (stack.new.items ≡ stack.old.items ++ reverse symbols.now) }
@@ -33,7 +23,7 @@ fn push_all(stack: &mut Vec<Symbol>, symbols: &[Symbol]) -> Result<(), NoMemory>
     let mut left = symbols.len();
     while left > 0 {
         left -= 1;
-        add(stack, symbols[left])?;
+        put(stack, symbols[left])?;
     }
     Ok(())
 }
@@ -61,7 +51,7 @@ impl Machine {
                 return Ok(false);
             };
             self.stack.pop();
-            add(&mut self.order, number)?;
+            put(&mut self.order, number)?;
             push_all(&mut self.stack, body)?;
         }
         Ok(true)
@@ -74,7 +64,7 @@ impl Machine {
     {
         match self.stack.pop() {
             Some(Symbol::Token(wanted)) if wanted == kind => {
-                self.order.push(0)?;
+                put(&mut self.order, 0)?;
                 Ok(true)
             }
             _ => Ok(false),

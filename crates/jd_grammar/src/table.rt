@@ -11,18 +11,9 @@ pub enum Symbol {
     Name(u8),
 }
 
-/// A production of a grammar.
-#[derive(Clone, Copy)]
-pub struct Rule {
-    /// The name that it is of.
-    pub head: u8,
-    /// The kind of token before which it is not used; one that no token has where it always is.
-    pub unless: u8,
-    /// Where what stands for the name lies among the table's symbols: its first symbol.
-    pub from: u16,
-    /// The symbol behind its last.
-    pub to: u16,
-}
+/// A production of a grammar: the name that it is of; the kind of token before which it is not used, one that no token has where it
+/// always is; and where what stands for the name lies among the table's symbols: its first symbol, and the one behind its last.
+pub type Rule = (u8, u8, u16, u16);
 
 /// A grammar with its parsing table.
 #[derive(Clone, Copy)]
@@ -61,10 +52,10 @@ fn entry_at(table: &Table<'_>, name: u8, kind: u8) -> u16
 
 // What stands for a production's name.
 fn body<'a>(table: &Table<'a>, rule: Rule) -> &'a [Symbol]
-    ensures { result.now ≡ slice_range table.now.symbols.now rule.from rule.to }
+    ensures { result.now ≡ slice_range table.now.symbols.now rule.2 rule.3 }
 {
-    let from = rule.from as usize;
-    let to = (rule.to as usize).min(table.symbols.len());
+    let from = rule.2 as usize;
+    let to = (rule.3 as usize).min(table.symbols.len());
     if from < to {
         &table.symbols[from..to]
     } else {
@@ -85,10 +76,10 @@ pub(crate) fn choose<'a>(table: &Table<'a>, name: u8, kind: u8) -> Option<(u16, 
         return None;
     }
     let rule = table.rules[at];
-    if rule.head != name {
+    if rule.0 != name {
         return None;
     }
-    if rule.unless == kind {
+    if rule.1 == kind {
         return None;
     }
     Some((number, body(table, rule)))

@@ -3,4 +3,3 @@ mod Names
 mod Views
 mod Settled
 mod Levels
-mod Counting

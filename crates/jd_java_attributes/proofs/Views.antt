@@ -4,7 +4,7 @@ use Rattle.std.proofs.lemmas.List.{map-id}
 use Rattle.jd_grammar.specs.Folds.{values}
 use Rattle.jd_grammar.specs.Grammars.{Forest, Done, Leaf, Node, yield}
 use Rattle.jd_grammar.specs.Nodes.{StandFor, all_of, filled}
-use Rattle.jd_grammar.specs.declared.fold.NodeParts.{NodeParts}
+use Rattle.jd_grammar.specs.declared.piles.NodeParts.{NodeParts}
 use Rattle.jd_grammar.proofs.Walks.{made_values}
 use Rattle.jd_java_tokens.specs.declared.lexeme.Lexeme.{Lexeme}
 use Rattle.jd_java_tokens.specs.Contents.{PlainLexeme}
@@ -14,11 +14,10 @@ use Rattle.jd_java_attributes.specs.declared.form.TheConstants.{EMPTY}
 use Rattle.jd_java_attributes.specs.declared.heading.Heading.{Heading}
 use Rattle.jd_java_attributes.specs.declared.heading.Told.{Told}
 use Rattle.jd_java_attributes.specs.declared.rows.Rule.{Rule}
-use Rattle.jd_java_attributes.specs.Folding.{IsBlank, form_at, heading_at, told_view, told_views}
+use Rattle.jd_java_attributes.specs.Folding.{form_at, heading_at, told_view, told_views}
 use Rattle.jd_java_attributes.specs.Headings.{PlainHeading, bare, heading_view, told}
 use Rattle.jd_java_attributes.specs.Judging.{PlainAttributes, attributes, attributes_of, first_of_all, names_of, nothing, plain_forms, plain_headings}
 use Rattle.jd_java_attributes.specs.Rules.{made, row_of, with_high}
-use Rattle.jd_java_attributes.specs.Short.{IsQuiet}
 
 abbrev Row : Type 0
 Row = ℕ × ℕ × Rule
@@ -104,16 +103,3 @@ heading_of_parts p ts stack n row none parts v none_told of count is e =
 -- what is left on the stack
 pub drop_as : {V : Type 0} (p : ℕ) (stack : List V) (n : ℕ) (rest : List V) → n ≡ names_of p → rest ≡ drop n stack → rest ≡ drop (names_of p) stack
 drop_as p stack n rest count is = is ∙ ap (λ k. drop k stack) count
-
--- of a production without tokens and names nothing is taken off
-pub blank : (p : ℕ) (ts : List PlainLexeme) (stack : List Form) (row : Row) → row ≡ row_of p → IsBlank row → (EMPTY ≡ form_at p ts (take (names_of p) stack)) × (drop (names_of p) stack ≡ stack)
-blank p ts stack row of is =
-    let none : names_of p ≡ 0 = sym (ap (λ (r : Row). r.1) of) ∙ is.nameless in
-    let same : form_at p ts (take (names_of p) stack) ≡ EMPTY = ap₂ (λ (r : Row) k. with_high ts (made r.2 r.0 ts (filled (all_of EMPTY) (take k stack)))) (sym of) none ∙ is.empty ts in
-    (sym same, ap (λ k. drop k stack) none)
-
-pub blank_told : (p : ℕ) (ts : List PlainLexeme) (stack : List Told) (row : Row) (v : Told) → row ≡ row_of p → IsQuiet row 0 → told_view v ≡ bare → (told_view v ≡ heading_at p ts (map told_view (take (names_of p) stack))) × (drop (names_of p) stack ≡ stack)
-blank_told p ts stack row v of is e =
-    let none : names_of p ≡ 0 = sym (ap (λ (r : Row). r.1) of) ∙ is.names in
-    let same : heading_at p ts (map told_view (take (names_of p) stack)) ≡ bare = ap₂ (λ (r : Row) k. told r.2 ts (filled (all_of bare) (map told_view (take k stack)))) (sym of) none ∙ is.quiet ts in
-    (e ∙ sym same, ap (λ k. drop k stack) none)

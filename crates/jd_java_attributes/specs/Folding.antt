@@ -1,8 +1,10 @@
 -- The two parts of the attributes, each by itself.
-use Rattle.std.specs.Prelude.{◌≡◌, ◌≤◌, ℕ, List}
+use Rattle.std.specs.Prelude.{◌≡◌, ◌≤◌, ℕ, List, map}
 use Rattle.jd_grammar.specs.Nodes.{all_of, filled}
-use Rattle.jd_grammar.specs.declared.fold.NodeParts.{NodeParts}
+use Rattle.jd_grammar.specs.declared.piles.NodeParts.{NodeParts}
 use Rattle.jd_java_tokens.specs.Contents.{PlainLexeme}
+use Rattle.jd_java_tokens.specs.Lexemes.{lexeme_view}
+use Rattle.jd_java_tokens.specs.declared.lexeme.Lexeme.{Lexeme}
 use Rattle.jd_java_attributes.specs.declared.form.Form.{Form}
 use Rattle.jd_java_attributes.specs.declared.form.Asked.TheVariants as asks
 use Rattle.jd_java_attributes.specs.declared.form.TheConstants.{EMPTY}
@@ -16,6 +18,10 @@ use Rattle.jd_java_attributes.specs.Headings.{PlainHeading, bare, told, heading_
 -- the form of a node, from those of its parts
 abbrev pub form_at : ℕ → List PlainLexeme → List Form → Form
 form_at p ts forms = with_high ts (made (row_of p).2 (row_of p).0 ts (filled (all_of EMPTY) forms))
+
+-- it has this form, with these tokens from its first on
+abbrev pub IsFormAt : ℕ → List Lexeme → List Form → Form → Type 0
+IsFormAt p ts forms v = v ≡ form_at p (map lexeme_view ts) forms
 
 -- a production without tokens and names, whose nodes have the form of nothing
 pub record IsBlank (row : ℕ × ℕ × Rule) : Type 0 where
@@ -58,3 +64,7 @@ told_views parts = record {
   third = told_view parts.third;
   fourth = told_view parts.fourth;
 }
+
+-- a node tells this, with these tokens from its first on
+abbrev pub IsToldAt : ℕ → List Lexeme → List Told → Told → Type 0
+IsToldAt p ts parts v = told_view v ≡ heading_at p (map lexeme_view ts) (map told_view parts)

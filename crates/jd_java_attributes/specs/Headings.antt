@@ -9,7 +9,7 @@ use Rattle.jd_java_attributes.specs.declared.heading.Constructor.{Constructor}
 use Rattle.jd_java_attributes.specs.declared.heading.Heading.{Heading}
 use Rattle.jd_java_attributes.specs.declared.rows.Rule.{Rule}
 use Rattle.jd_java_attributes.specs.declared.rows.Rule.TheVariants as rules
-use Rattle.jd_grammar.specs.declared.fold.NodeParts.{NodeParts}
+use Rattle.jd_grammar.specs.declared.piles.NodeParts.{NodeParts}
 use Rattle.jd_java_attributes.specs.Forms.{first_of}
 
 -- a constructor's name, and the place of its `(`

@@ -9,7 +9,7 @@ use Rattle.jd_java_attributes.specs.declared.form.TheConstants.{EMPTY}
 use Rattle.jd_java_attributes.specs.declared.heading.Heading.{Heading}
 use Rattle.jd_java_attributes.specs.declared.nodes.Attributes.{Attributes}
 use Rattle.jd_java_attributes.specs.declared.rows.Rule.{Rule}
-use Rattle.jd_grammar.specs.declared.fold.NodeParts.{NodeParts}
+use Rattle.jd_grammar.specs.declared.piles.NodeParts.{NodeParts}
 use Rattle.jd_java_attributes.specs.Forms.{first_of}
 use Rattle.jd_java_attributes.specs.Rules.{row_of, made, with_high}
 use Rattle.jd_java_attributes.specs.Headings.{PlainHeading, bare, told, heading_view}

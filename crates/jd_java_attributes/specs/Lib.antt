@@ -5,4 +5,3 @@ pub mod Judging
 pub mod Laws
 pub mod Folding
 pub mod Short
-pub mod Counted

@@ -11,7 +11,7 @@ use Rattle.jd_java_attributes.specs.declared.form.TheConstants.{EMPTY}
 use Rattle.jd_java_attributes.specs.declared.rows.TheConstants.{ROWS, NO_ROW}
 use Rattle.jd_java_attributes.specs.declared.rows.Rule.{Rule}
 use Rattle.jd_java_attributes.specs.declared.rows.Rule.TheVariants as rules
-use Rattle.jd_grammar.specs.declared.fold.NodeParts.{NodeParts}
+use Rattle.jd_grammar.specs.declared.piles.NodeParts.{NodeParts}
 use Rattle.jd_java_attributes.specs.Forms.{in_order, up, first_of, is_target, inside}
 
 -- ---- the productions' rows

@@ -2,7 +2,7 @@
 
 ghost use Rattle.std.specs.Prelude.{◌≡◌, List, IfOk, IfSome, map, true};
 ghost use Rattle.std.specs.Option.{option_map};
-ghost use Rattle.jd_grammar.specs.declared.fold.NodeParts.{NodeParts};
+ghost use Rattle.jd_grammar.specs.declared.piles.NodeParts.{NodeParts};
 ghost use Rattle.jd_java_tokens.specs.Contents.{PlainLexeme};
 ghost use Rattle.jd_java_tokens.specs.Lexemes.{lexeme_view};
 ghost use Rattle.jd_java_attributes.specs.Headings as plain;

@@ -6,7 +6,6 @@ mod form;
 mod heading;
 mod laws;
 mod nodes;
-mod piles;
 mod rows;
 mod rules;
 mod short;

@@ -1,22 +1,23 @@
 //! The attributes of a whole file: its form and what it tells of members, each by a fold of its own.
 
-ghost use Rattle.std.specs.Prelude.{◌≡◌, ◌∷◌, [], IfOk, OnOk, drop, length, map, reverse, take};
-ghost use Rattle.jd_grammar.specs.Nodes.{Evaluates, IsRead, IsReadAs, Rooted, leaves};
+ghost use Rattle.std.specs.Prelude.{◌≡◌, ◌∷◌, IfOk, IfSome, OnOk, length, map};
+ghost use Rattle.jd_grammar.specs.Counted.{IsKept, IsQuiet, shown};
+ghost use Rattle.jd_grammar.specs.Nodes.{IsRead, IsReadAs, Rooted};
 ghost use Rattle.jd_java_tokens.specs.Lexemes.{lexeme_view};
-ghost use Rattle.jd_java_attributes.specs.Counted.{IsFormAt, shown};
-ghost use Rattle.jd_java_attributes.specs.Folding.{form_at, heading_at, told_view};
+ghost use Rattle.jd_java_attributes.specs.Folding.{IsFormAt, IsToldAt};
 ghost use Rattle.jd_java_attributes.specs.Headings.{heading_view};
 ghost use Rattle.jd_java_attributes.specs.Judging as plain;
 ghost use Rattle.jd_java_attributes.specs.Judging.{attributes_of, attributes_view, names_of};
+ghost use Rattle.jd_java_attributes.specs.declared.form.TheConstants.{EMPTY as NOTHING};
+ghost use Rattle.jd_java_attributes.specs.declared.heading.Told.TheVariants as tells;
 
-use crate::form::{Form, first_of};
+use crate::form::{EMPTY, Form, first_of};
 use crate::heading::{Heading, Told, heading_in, told_by};
-use crate::piles::{Piles, drop_nothing, keeps_only, kept_pile};
 use crate::rows::{names_of, row};
-use crate::rules::{form_by, is_blank};
-use crate::short::{is_quiet, keeps_quiet, tells_nothing};
+use crate::rules::form_by;
+use crate::short::{kept_form_parts, quiet_form_parts, quiet_told_parts};
 use jd_base::NoMemory;
-use jd_grammar::{NodeParts, Nodes, drop_second, put, take_parts, value_of};
+use jd_grammar::{Blank, NodeParts, Nodes, Piles, value_of};
 use jd_java_tokens::Lexeme;
 use std::alloc::Global;
 
@@ -38,6 +39,13 @@ impl Attributes<'_> {
     }
 }
 
+const NO_FORMS: NodeParts<Form> = NodeParts {
+    first: EMPTY,
+    second: EMPTY,
+    third: EMPTY,
+    fourth: EMPTY,
+};
+
 const NOTHING_TOLD: NodeParts<Told<'static>> = NodeParts {
     first: Told::Nothing,
     second: Told::Nothing,
@@ -45,43 +53,63 @@ const NOTHING_TOLD: NodeParts<Told<'static>> = NodeParts {
     fourth: Told::Nothing,
 };
 
-// Puts the form of a node of a production in the place of those of its parts.
-fn reduce_form(production: u16, tokens: &[Lexeme<'_>], piles: &mut Piles) -> Result<(), NoMemory>
-    ensures { OnOk result ((v : Form) × (v ≡ form_at production (map lexeme_view tokens.now) (take (names_of production) (shown piles.old))) × (shown piles.new ≡ v ∷ drop (names_of production) (shown piles.old))) }
-{
-    let row = row(production);
-    if is_blank(row) {
-        return piles.add_nothing();
+impl Blank for Form {
+    ghost nothing = { NOTHING };
+
+    fn nothing() -> Form {
+        EMPTY
     }
-    if let Some(pile) = kept_pile(row, &*piles) {
-        drop_nothing(piles, pile);
-        return Ok(());
-    }
-    if keeps_only(row, &*piles) {
-        return Ok(());
-    }
-    let parts = piles.take_parts(names_of(production));
-    piles.add(form_by(row, tokens, parts))
 }
 
-// Puts the forms of the trees with this preorder onto a stack, from the end.
-fn reduce_forms(order: &[u16], tokens: &[Lexeme<'_>], piles: &mut Piles) -> Result<(), NoMemory>
-    requires leaves { leaves order.now ≡ length tokens.now }
-    requires empty { shown piles.old ≡ [] }
-    ensures { OnOk result (Evaluates names_of IsFormAt order.now tokens.now (shown piles.new)) }
-{
-    let mut left = order.len();
-    let mut at = tokens.len();
-    while left > 0 {
-        left -= 1;
-        let entry = order[left];
-        if entry == 0 {
-            at -= 1;
-        } else {
-            reduce_form(entry - 1, &tokens[at..], piles)?;
-        }
+impl<'a> Blank for Told<'a> {
+    ghost nothing = { tells.Nothing };
+
+    fn nothing() -> Told<'a> {
+        Told::Nothing
     }
-    Ok(())
+}
+
+/// The nodes of Java's files, which stand for their forms.
+#[derive(Clone, Copy)]
+pub struct FormNodes;
+
+impl<'a> Nodes<Lexeme<'a>, Form> for FormNodes {
+    ghost count = { λ _. names_of };
+
+    ghost stands = { λ _. IsFormAt };
+
+    fn quiet_parts(&self, production: u16) -> Option<u8>
+        ensures { IfSome result (λ n. IsQuiet names_of IsFormAt NOTHING production n) }
+    {
+        quiet_form_parts(production)
+    }
+
+    fn kept_parts(&self, production: u16, first: &Form) -> Option<u8>
+        ensures { IfSome result (λ n. IsKept names_of IsFormAt NOTHING production n first.now) }
+    {
+        kept_form_parts(production, *first)
+    }
+
+    fn reduce(
+        &self,
+        _alloc: Global,
+        production: u16,
+        tokens: &[Lexeme<'a>],
+        piles: &mut Piles<Form>,
+    ) -> Result<(), NoMemory> {
+        let parts = piles.take_parts(names_of(production), NO_FORMS);
+        piles.add(form_by(row(production), tokens, parts))
+    }
+}
+
+// Puts on top what a node tells; nothing is counted.
+fn add_told<'a>(piles: &mut Piles<Told<'a>>, told: Told<'a>) -> Result<(), NoMemory>
+    ensures { OnOk result (shown tells.Nothing piles.new ≡ told.entry ∷ shown tells.Nothing piles.old) }
+{
+    match told {
+        Told::Nothing => piles.add_nothing(),
+        other => piles.add(other),
+    }
 }
 
 /// The nodes of Java's files, which stand for what they tell of members.
@@ -89,34 +117,33 @@ fn reduce_forms(order: &[u16], tokens: &[Lexeme<'_>], piles: &mut Piles) -> Resu
 pub struct HeadingNodes;
 
 impl<'a> Nodes<Lexeme<'a>, Told<'a>> for HeadingNodes {
-    ghost count = { λ _ p. names_of p };
+    ghost count = { λ _. names_of };
 
-    ghost stands = { λ _ p ts us v. told_view v ≡ heading_at p (map lexeme_view ts) (map told_view us) };
+    ghost stands = { λ _. IsToldAt };
+
+    fn quiet_parts(&self, production: u16) -> Option<u8>
+        ensures { IfSome result (λ n. IsQuiet names_of IsToldAt tells.Nothing production n) }
+    {
+        quiet_told_parts(production)
+    }
+
+    fn kept_parts(&self, _production: u16, _first: &Told<'a>) -> Option<u8>
+        ensures { IfSome result (λ n. IsKept names_of IsToldAt tells.Nothing _production n _first.now) }
+    {
+        None
+    }
 
     fn reduce(
         &self,
         alloc: Global,
         production: u16,
         tokens: &[Lexeme<'a>],
-        stack: &mut Vec<Told<'a>>,
-    ) -> Result<(), NoMemory>
-        ensures { OnOk result ((v : Told) × (told_view v ≡ heading_at production (map lexeme_view tokens.now) (map told_view (take (names_of production) (reverse stack.old.items)))) × (reverse stack.new.items ≡ v ∷ drop (names_of production) (reverse stack.old.items))) }
-    {
+        piles: &mut Piles<Told<'a>>,
+    ) -> Result<(), NoMemory> {
+        let parts = piles.take_parts(names_of(production), NOTHING_TOLD);
         let row = row(production);
-        if is_quiet(row, 0) {
-            return put(stack, Told::Nothing);
-        }
-        if keeps_quiet(row, &*stack) {
-            return Ok(());
-        }
-        if tells_nothing(row, &*stack) {
-            drop_second(stack);
-            return Ok(());
-        }
-        let parts = take_parts(stack, names_of(production), NOTHING_TOLD);
-        let (_, _, rule) = row;
-        let told = told_by(alloc, rule, tokens, parts)?;
-        put(stack, told)
+        let told = told_by(alloc, row.2, tokens, parts)?;
+        add_told(piles, told)
     }
 }
 
@@ -125,9 +152,7 @@ fn form_of_all(alloc: Global, order: &[u16], lexemes: &[Lexeme<'_>]) -> Result<F
     requires read { IsRead names_of order.now (length lexemes.now) }
     ensures { (tree : Rooted) → IsReadAs tree names_of order.now (length lexemes.now) → IfOk result (λ f. (attributes_of tree.forest (map lexeme_view lexemes.now)).form ≡ f) }
 {
-    let mut piles = Piles::begun(alloc);
-    reduce_forms(order, lexemes, &mut piles)?;
-    Ok(piles.take_top(true))
+    value_of(alloc, &FormNodes, order, lexemes)
 }
 
 // What the file with this preorder tells of members.

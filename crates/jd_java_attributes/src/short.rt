@@ -1,106 +1,67 @@
-//! Nodes for which nothing has to be taken off the stack but a part that is nothing, as of levels of expressions without an operator
+//! Nodes for which nothing has to be taken off the stack but parts that are nothing, as of levels of expressions without an operator
 //! of theirs.
 
-ghost use Rattle.std.specs.Prelude.{◌≡◌, reverse, true};
-ghost use Rattle.jd_java_attributes.specs.Folding.{told_view};
-ghost use Rattle.jd_java_attributes.specs.Headings.{bare};
-ghost use Rattle.jd_java_attributes.specs.Short.{IsLevel, IsQuiet, TellsNothing, TellsNothingFirst};
+ghost use Rattle.std.specs.Prelude.{◌≡◌, IfSome};
+ghost use Rattle.jd_grammar.specs.Counted.{IsKept, IsQuiet};
+ghost use Rattle.jd_java_attributes.specs.Folding.{IsFormAt, IsToldAt};
+ghost use Rattle.jd_java_attributes.specs.Judging.{names_of as the_names};
+ghost use Rattle.jd_java_attributes.specs.Short.{IsLevel};
+ghost use Rattle.jd_java_attributes.specs.declared.form.TheConstants.{EMPTY as NOTHING};
+ghost use Rattle.jd_java_attributes.specs.declared.heading.Told.TheVariants as tells;
 
-use crate::heading::{Told, tells_parts};
-use crate::rows::{Row, Rule};
+use crate::form::Form;
+use crate::heading::tells_parts;
+use crate::rows::{Row, Rule, row};
+use crate::rules::{is_blank, is_settled};
 
-/// Whether nodes of this row, which have two parts, have the form of their first where it is alone, as of a level of expressions.
-#[tactic(auto, using(crate::proofs::Levels::level, crate::proofs::Levels::list))]
-pub(crate) fn is_level(row: Row) -> bool
-    ensures { result ≡ true → IsLevel row 2 }
+/// How many parts nodes of a production have, if they have the form of nothing where their parts do.
+#[tactic(auto, using(crate::proofs::Levels::quiet_form))]
+pub(crate) fn quiet_form_parts(production: u16) -> Option<u8>
+    ensures { IfSome result (λ n. IsQuiet the_names IsFormAt NOTHING production n) }
+{
+    if !is_blank(row(production)) {
+        return None;
+    }
+    Some(0)
+}
+
+// How many parts nodes of this row have behind the first, if they have its form where it is alone, as of a level of expressions.
+#[tactic(auto, using(crate::proofs::Levels::level, crate::proofs::Levels::list, crate::proofs::Levels::only_level, crate::proofs::Levels::only_list))]
+fn level_parts(row: Row) -> Option<u8>
+    ensures { IfSome result (λ n. IsLevel row n) }
 {
     match row {
-        (0, 2, Rule::Expression) => true,
-        (0, 2, Rule::Parts) => true,
-        _ => false,
+        (0, 1, Rule::Expression) => Some(0),
+        (0, 1, Rule::Parts) => Some(0),
+        (0, 2, Rule::Expression) => Some(1),
+        (0, 2, Rule::Parts) => Some(1),
+        _ => None,
     }
 }
 
-/// Whether nodes of this row have the form of their only part.
-#[tactic(auto, using(crate::proofs::Levels::only_level, crate::proofs::Levels::only_list))]
-pub(crate) fn is_only(row: Row) -> bool
-    ensures { result ≡ true → IsLevel row 1 }
+/// How many parts nodes of a production have behind the first, if they have this form where the first has it and the others that of
+/// nothing.
+#[tactic(auto, using(crate::proofs::Levels::kept_form))]
+pub(crate) fn kept_form_parts(production: u16, first: Form) -> Option<u8>
+    ensures { IfSome result (λ n. IsKept the_names IsFormAt NOTHING production n first) }
 {
-    match row {
-        (0, 1, Rule::Expression) => true,
-        (0, 1, Rule::Parts) => true,
-        _ => false,
-    }
-}
-
-/// Whether nodes of this row, which has so many names, tell nothing where their parts do not.
-#[tactic(auto, using(crate::proofs::Levels::quiet))]
-pub(crate) fn is_quiet(row: Row, names: u8) -> bool
-    ensures { result ≡ true → IsQuiet row names }
-{
-    let (_, count, rule) = row;
-    if count != names {
-        return false;
-    }
-    tells_parts(rule)
-}
-
-// Whether it tells nothing.
-fn is_nothing(told: &Told<'_>) -> bool
-    ensures { result ≡ true → told_view told.now ≡ bare }
-{
-    match told {
-        Told::Nothing => true,
-        _ => false,
-    }
-}
-
-// Whether the one on top tells nothing.
-#[tactic(auto, using(crate::proofs::Levels::first_tells_nothing))]
-fn first_tells_nothing(stack: &[Told<'_>]) -> bool
-    ensures { result ≡ true → TellsNothingFirst (reverse stack.now) }
-{
-    let Some((first, _)) = stack.split_last() else {
-        return false;
+    let Some(parts) = level_parts(row(production)) else {
+        return None;
     };
-    is_nothing(first)
+    if !is_settled(first) {
+        return None;
+    }
+    Some(parts)
 }
 
-// Whether the two on top tell nothing.
-#[tactic(auto, using(crate::proofs::Levels::tells_nothing))]
-fn tell_nothing(stack: &[Told<'_>]) -> bool
-    ensures { result ≡ true → TellsNothing (reverse stack.now) }
+/// How many parts nodes of a production have, if they tell nothing where their parts do not.
+#[tactic(auto, using(crate::proofs::Levels::quiet_telling))]
+pub(crate) fn quiet_told_parts(production: u16) -> Option<u8>
+    ensures { IfSome result (λ n. IsQuiet the_names IsToldAt tells.Nothing production n) }
 {
-    let Some((first, others)) = stack.split_last() else {
-        return false;
-    };
-    let Some((second, _)) = others.split_last() else {
-        return false;
-    };
-    if !is_nothing(first) {
-        return false;
+    let row = row(production);
+    if !tells_parts(row.2) {
+        return None;
     }
-    is_nothing(second)
-}
-
-/// Whether a node of this row tells nothing, nor does its only part.
-pub(crate) fn keeps_quiet(row: Row, stack: &[Told<'_>]) -> bool
-    ensures quiet { result ≡ true → IsQuiet row 1 }
-    ensures nothing { result ≡ true → TellsNothingFirst (reverse stack.now) }
-{
-    if !is_quiet(row, 1) {
-        return false;
-    }
-    first_tells_nothing(stack)
-}
-
-/// Whether a node of this row tells nothing, nor do its two parts.
-pub(crate) fn tells_nothing(row: Row, stack: &[Told<'_>]) -> bool
-    ensures quiet { result ≡ true → IsQuiet row 2 }
-    ensures nothing { result ≡ true → TellsNothing (reverse stack.now) }
-{
-    if !is_quiet(row, 2) {
-        return false;
-    }
-    tell_nothing(stack)
+    Some(row.1)
 }

@@ -13,7 +13,7 @@ use jd_syntax::Expr;
 use std::alloc::Global;
 
 /// Expressions from the first on.
-#[tactic(auto, using(jd_java_values::proofs::Backwards::turned))]
+#[tactic(auto, using(jd_lists::proofs::Backwards::turned))]
 pub fn ordered(expressions: Vec<Expr>) -> Vec<Expr>
     ensures { in_order java_view result ≡ backwards java_view expressions }
 {
@@ -45,7 +45,7 @@ fn given(expressions: Result<Vec<Expr>, NoMemory>) -> Result<Value, NoMemory>
 }
 
 // An expression before others.
-#[tactic(auto, using(jd_java_values::proofs::Backwards::one_more))]
+#[tactic(auto, using(jd_lists::proofs::Backwards::one_more))]
 fn before(e: Expr, expressions: Vec<Expr>) -> Result<Vec<Expr>, NoMemory>
     ensures { Gives (backwards java_view) result (java_view e ∷ backwards java_view expressions) }
 {

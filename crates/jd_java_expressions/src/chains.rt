@@ -12,7 +12,7 @@ use std::alloc::Global;
 pub type Behind = Result<Vec<Suffix>, NoMemory>;
 
 /// Suffixes, and others behind them.
-#[tactic(auto, using(jd_java_values::proofs::Backwards::others_first))]
+#[tactic(auto, using(jd_lists::proofs::Backwards::others_first))]
 pub fn followed(suffixes: Vec<Suffix>, behind: Behind) -> Behind
     ensures { (x : List PlainSuffix) → Gives (backwards suffix_view) behind x → Gives (backwards suffix_view) result (backwards suffix_view suffixes ++ x) }
 {
@@ -21,7 +21,7 @@ pub fn followed(suffixes: Vec<Suffix>, behind: Behind) -> Behind
 }
 
 /// A suffix, and others behind it.
-#[tactic(auto, using(jd_java_values::proofs::Backwards::one_more))]
+#[tactic(auto, using(jd_lists::proofs::Backwards::one_more))]
 pub fn begins(suffix: Suffix, behind: Behind) -> Behind
     ensures { (x : List PlainSuffix) → Gives (backwards suffix_view) behind x → Gives (backwards suffix_view) result (suffix_view suffix ∷ x) }
 {
@@ -30,7 +30,7 @@ pub fn begins(suffix: Suffix, behind: Behind) -> Behind
 }
 
 /// A suffix alone.
-#[tactic(auto, using(jd_java_values::proofs::Backwards::one_more))]
+#[tactic(auto, using(jd_lists::proofs::Backwards::one_more))]
 pub fn alone(alloc: Global, suffix: Suffix) -> Behind
     ensures { Gives (backwards suffix_view) result (suffix_view suffix ∷ []) }
 {

@@ -12,7 +12,8 @@ ghost use Rattle.jd_java_grammar.specs.declared.names.TheConstants.{COMPILATION_
 pub mod kinds;
 mod laws;
 pub mod names;
-mod table;
+mod rows;
+mod rules;
 
 use jd_grammar::{Refusal, Table, parse};
 pub use laws::one_derivation;
@@ -23,13 +24,13 @@ fn java_table() -> Table<'static>
     ensures { plain result ≡ java }
 {
     Table {
-        rules: &table::RULES,
-        symbols: &table::SYMBOLS,
-        rows: &table::ROWS,
-        width: table::WIDTH,
+        rules: &rules::RULES,
+        symbols: &rules::SYMBOLS,
+        rows: &rows::ROWS,
+        width: rows::WIDTH,
         starts: &names::STARTS,
-        weights: &table::WEIGHTS,
-        solid: &table::SOLID,
+        weights: &rows::WEIGHTS,
+        solid: &rows::SOLID,
     }
 }
 

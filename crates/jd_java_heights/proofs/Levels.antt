@@ -1,6 +1,6 @@
 -- How high forms are, how many levels they add and how high the statements in them are, by numbers of which those above 201 are not told apart.
 use Rattle.std.proofs.Common.{◌≡◌, ℕ, ◌+◌, min, max, refl, ap, ◌∙◌, arith}
-use Rattle.jd_grammar.specs.declared.fold.NodeParts.{NodeParts}
+use Rattle.jd_grammar.specs.declared.piles.NodeParts.{NodeParts}
 use Rattle.jd_java_attributes.specs.declared.form.Form.{Form}
 use Rattle.jd_java_attributes.specs.Rules.{all_in_order, only_tokens}
 use Rattle.jd_java_attributes.specs.Judging.{PlainAttributes, nothing}

@@ -1,6 +1,6 @@
 -- What each form of a node tells, where its parts tell what their names say.
 use Rattle.std.proofs.Common.{◌≡◌, inl, inr, ℕ, suc, ◌+◌, ◌≤◌, max, List, [], ◌∷◌, ◌++◌, length, Option, None, refl, sym, ap, subst, ◌∙◌, arith}
-use Rattle.jd_grammar.specs.declared.fold.NodeParts.{NodeParts}
+use Rattle.jd_grammar.specs.declared.piles.NodeParts.{NodeParts}
 use Rattle.jd_java_tokens.specs.Contents.{PlainLexeme}
 use Rattle.jd_syntax.specs.JavaTypes.{PlainWritten, IntType, IntArrayType}
 use Rattle.jd_syntax.specs.SpecTrees.{PlainSpecBlock}

@@ -1,6 +1,6 @@
 -- What a node of a file, a class or a member stands for, by its action, its tokens from the first on, and what its parts stand for.
 use Rattle.std.specs.Prelude.{ℕ, zero, suc, ℤ, pos, negsuc, List, [], ◌∷◌, ◌++◌, Bool, true, false, ◌||◌, cond, Option, Some, None}
-use Rattle.jd_grammar.specs.declared.fold.NodeParts.{NodeParts}
+use Rattle.jd_grammar.specs.declared.piles.NodeParts.{NodeParts}
 use Rattle.jd_java_tokens.specs.Contents.{PlainLexeme}
 use Rattle.jd_java_tokens.specs.Heads.{place_of, number_of, run_of, begins_with_run}
 use Rattle.jd_syntax.specs.JavaTypes.{PlainIdentifier, PlainWritten, IntType, BooleanType, NamedType}

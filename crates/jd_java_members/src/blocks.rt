@@ -100,7 +100,7 @@ pub fn body_of(
 }
 
 /// Members behind one that comes first, if it has been made, and the JML before the closing brace.
-#[tactic(auto, using(jd_java_values::proofs::Backwards::last_first))]
+#[tactic(auto, using(jd_lists::proofs::Backwards::last_first))]
 pub fn with_first(
     members: Vec<Member>,
     member: Result<Member, NoMemory>,
@@ -112,7 +112,7 @@ pub fn with_first(
 }
 
 // JML before the first of these members, or before the closing brace where there is none.
-#[tactic(auto, using(jd_java_values::proofs::Backwards::last_first))]
+#[tactic(auto, using(jd_lists::proofs::Backwards::last_first))]
 fn annotated_body(
     alloc: Global,
     tokens: &[Lexeme<'_>],

@@ -23,7 +23,7 @@ fn classes_given(classes: Result<Vec<ClassDecl>, NoMemory>) -> Result<Value, NoM
 }
 
 /// Classes before others.
-#[tactic(auto, using(jd_java_values::proofs::Backwards::reversed_append))]
+#[tactic(auto, using(jd_lists::proofs::Backwards::reversed_append))]
 pub fn classes_before(alloc: Global, parts: &mut NodeParts<Value>) -> Result<Value, NoMemory>
     ensures { Gives value_view result (plain.meaning actions.Classes [] (parts_view parts.old)) }
 {
@@ -33,7 +33,7 @@ pub fn classes_before(alloc: Global, parts: &mut NodeParts<Value>) -> Result<Val
 }
 
 /// A class.
-#[tactic(auto, using(jd_java_values::proofs::Backwards::map_reverse))]
+#[tactic(auto, using(jd_lists::proofs::Backwards::map_reverse))]
 pub fn class(
     alloc: Global,
     tokens: &[Lexeme<'_>],

@@ -31,7 +31,7 @@ fn names_given(names: Result<Vec<Identifier>, NoMemory>) -> Result<Value, NoMemo
 }
 
 /// A name before others.
-#[tactic(auto, using(jd_java_values::proofs::Backwards::last_first))]
+#[tactic(auto, using(jd_lists::proofs::Backwards::last_first))]
 pub fn name_before(alloc: Global, parts: &mut NodeParts<Value>) -> Result<Value, NoMemory>
     ensures { Gives value_view result (plain.meaning actions.Names [] (parts_view parts.old)) }
 {
@@ -41,7 +41,7 @@ pub fn name_before(alloc: Global, parts: &mut NodeParts<Value>) -> Result<Value,
 }
 
 /// The names of further fields.
-#[tactic(auto, using(jd_java_values::proofs::Backwards::map_reverse))]
+#[tactic(auto, using(jd_lists::proofs::Backwards::map_reverse))]
 pub fn field_names(alloc: Global, parts: &mut NodeParts<Value>) -> Value
     ensures { value_view result ≡ plain.meaning actions.FieldNames [] (parts_view parts.old) }
 {
@@ -50,7 +50,7 @@ pub fn field_names(alloc: Global, parts: &mut NodeParts<Value>) -> Value
 }
 
 /// The parameters and the body of a method or a constructor.
-#[tactic(auto, using(jd_java_values::proofs::Backwards::map_reverse))]
+#[tactic(auto, using(jd_lists::proofs::Backwards::map_reverse))]
 pub fn routine(alloc: Global, parts: &mut NodeParts<Value>) -> Value
     ensures { value_view result ≡ plain.meaning actions.Routine [] (parts_view parts.old) }
 {

@@ -136,7 +136,7 @@ fn member_at(
 }
 
 // Whether `static` is among the modifiers, and the JML at them, in order.
-#[tactic(auto, using(jd_java_values::proofs::Backwards::map_reverse))]
+#[tactic(auto, using(jd_lists::proofs::Backwards::map_reverse))]
 fn modifiers_in_order(alloc: Global, value: &mut Value) -> (bool, Vec<SpecBlock>)
     ensures modifiers { result.0 ≡ part.static_of (value_view value.old) }
     ensures blocks { in_order spec_block_view result.1 ≡ part.blocks_of (value_view value.old) }
@@ -172,7 +172,7 @@ fn members(alloc: Global, value: &mut Value) -> Vec<Member>
 }
 
 /// Members before others.
-#[tactic(auto, using(jd_java_values::proofs::Backwards::reversed_append))]
+#[tactic(auto, using(jd_lists::proofs::Backwards::reversed_append))]
 pub fn members_before(alloc: Global, parts: &mut NodeParts<Value>) -> Result<Value, NoMemory>
     ensures { Gives value_view result (plain.meaning actions.Members [] (parts_view parts.old)) }
 {

@@ -38,7 +38,7 @@ fn blocks(alloc: Global, value: &mut Value) -> Vec<SpecBlock>
 }
 
 /// Modifiers before others, with JML between them.
-#[tactic(auto, using(jd_java_values::proofs::Backwards::reversed_three))]
+#[tactic(auto, using(jd_lists::proofs::Backwards::reversed_three))]
 pub fn modifiers_before(alloc: Global, parts: &mut NodeParts<Value>) -> Result<Value, NoMemory>
     ensures { Gives value_view result (plain.meaning actions.Modifiers [] (parts_view parts.old)) }
 {
@@ -69,7 +69,7 @@ fn parameters_given(parameters: Result<Vec<Parameter>, NoMemory>) -> Result<Valu
 }
 
 /// Parameters before others.
-#[tactic(auto, using(jd_java_values::proofs::Backwards::reversed_append))]
+#[tactic(auto, using(jd_lists::proofs::Backwards::reversed_append))]
 pub fn parameters_before(alloc: Global, parts: &mut NodeParts<Value>) -> Result<Value, NoMemory>
     ensures { Gives value_view result (plain.meaning actions.Parameters [] (parts_view parts.old)) }
 {
@@ -90,7 +90,7 @@ fn place_behind_run(tokens: &[Lexeme<'_>]) -> u32
 }
 
 // A parameter, if its JML, the last part first, has been made.
-#[tactic(auto, using(jd_java_values::proofs::Backwards::map_reverse))]
+#[tactic(auto, using(jd_lists::proofs::Backwards::map_reverse))]
 fn parameter_of(
     at: u32,
     specs: Result<Vec<SpecBlock>, NoMemory>,
@@ -122,7 +122,7 @@ fn only_parameter(alloc: Global, parameter: Result<Parameter, NoMemory>) -> Resu
 }
 
 // The JML at modifiers and at others behind them, the last first.
-#[tactic(auto, using(jd_java_values::proofs::Backwards::reversed_append))]
+#[tactic(auto, using(jd_lists::proofs::Backwards::reversed_append))]
 fn all_blocks(
     alloc: Global,
     first: &mut Value,

@@ -3,7 +3,7 @@ use Rattle.std.proofs.Common.{◌≡◌, ℕ, ◌+◌, List, [], ◌∷◌, ◌+
 use Rattle.std.specs.List.{list_all}
 use Rattle.std.proofs.lemmas.Bool.{and_parts}
 use Rattle.jd_grammar.specs.Grammars.{Production}
-use Rattle.jd_grammar.specs.declared.fold.NodeParts.{NodeParts}
+use Rattle.jd_grammar.specs.declared.piles.NodeParts.{NodeParts}
 use Rattle.jd_grammar.specs.declared.table.Symbol.{Symbol}
 use Rattle.jd_grammar.specs.declared.table.Symbol.TheVariants.{Token, Name}
 use Rattle.jd_java_grammar.specs.Productions.{java_productions}

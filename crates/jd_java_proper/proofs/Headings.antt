@@ -1,6 +1,6 @@
 -- What a heading tells of a declaration, and of the modifiers before it.
 use Rattle.std.proofs.Common.{◌≡◌, ℕ, List, [], Bool, true, false, ◌&&◌, ◌||◌, cond, Some, None, refl, sym, ap, ◌∙◌}
-use Rattle.jd_grammar.specs.declared.fold.NodeParts.{NodeParts}
+use Rattle.jd_grammar.specs.declared.piles.NodeParts.{NodeParts}
 use Rattle.jd_java_tokens.specs.Contents.{PlainLexeme}
 use Rattle.jd_java_values.specs.Values as values
 use Rattle.jd_java_values.specs.Values.{PlainDeclared, PlainValue}

@@ -1,6 +1,6 @@
 -- What the kind of a form says of a value.
 use Rattle.std.proofs.Common.{◌≡◌, ℕ, List, [], ◌++◌, Some, None, refl, sym, ap, ◌∙◌}
-use Rattle.jd_grammar.specs.declared.fold.NodeParts.{NodeParts}
+use Rattle.jd_grammar.specs.declared.piles.NodeParts.{NodeParts}
 use Rattle.jd_syntax.specs.JavaTrees as java
 use Rattle.jd_syntax.specs.JavaTrees.{JavaExpr}
 use Rattle.jd_java_values.specs.Values as values

@@ -1,6 +1,6 @@
 -- What a node of a statement stands for, by its action, its tokens from the first on, and what its parts stand for.
 use Rattle.std.specs.Prelude.{ℕ, List, [], ◌∷◌, ◌++◌, Option, Some, None}
-use Rattle.jd_grammar.specs.declared.fold.NodeParts.{NodeParts}
+use Rattle.jd_grammar.specs.declared.piles.NodeParts.{NodeParts}
 use Rattle.jd_java_tokens.specs.Contents.{PlainLexeme}
 use Rattle.jd_java_tokens.specs.Heads.{place_of, text_of, run_of}
 use Rattle.jd_syntax.specs.JavaTypes.{PlainIdentifier, BooleanType, NamedType}

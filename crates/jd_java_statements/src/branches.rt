@@ -97,7 +97,7 @@ pub fn try_block(
     )
 }
 
-#[tactic(auto, using(jd_java_values::proofs::Backwards::others_first))]
+#[tactic(auto, using(jd_lists::proofs::Backwards::others_first))]
 fn joined(alloc: Global, parts: &mut NodeParts<Value>) -> Result<Vec<Handler>, NoMemory>
     ensures joined { let p = parts_view parts.old in Gives (backwards java_handler_view) result (plain.handlers_of p.first ++ plain.handlers_of p.second) }
     ensures rest { parts.new.third ≡ parts.old.third }
@@ -107,7 +107,7 @@ fn joined(alloc: Global, parts: &mut NodeParts<Value>) -> Result<Vec<Handler>, N
     appended(others, caught)
 }
 
-#[tactic(auto, using(jd_java_values::proofs::Backwards::turned))]
+#[tactic(auto, using(jd_lists::proofs::Backwards::turned))]
 fn rescue_of(
     handlers: Result<Vec<Handler>, NoMemory>,
     finally: Option<Vec<Stmt>>,
@@ -158,7 +158,7 @@ fn handler(at: u32, class: Identifier, name: Identifier, body: Vec<Stmt>) -> Han
     }
 }
 
-#[tactic(auto, using(jd_java_values::proofs::Backwards::one_more))]
+#[tactic(auto, using(jd_lists::proofs::Backwards::one_more))]
 fn alone(alloc: Global, handler: Handler) -> Result<Vec<Handler>, NoMemory>
     ensures { Gives (backwards java_handler_view) result (java_handler_view handler ∷ []) }
 {

@@ -35,7 +35,7 @@ pub fn while_loop(
 }
 
 /// The start of a `for`: `e, ..`, or nothing; the last comes first.
-#[tactic(auto, using(jd_java_values::proofs::Backwards::turned))]
+#[tactic(auto, using(jd_lists::proofs::Backwards::turned))]
 pub fn evaluated(expressions: Vec<Expr>) -> ForStart
     ensures { for_start_view result ≡ java.Evaluated (backwards java_view expressions) }
 {

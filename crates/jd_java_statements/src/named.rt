@@ -88,7 +88,7 @@ pub fn named_statement(
     }
 }
 
-#[tactic(auto, using(jd_java_values::proofs::Backwards::one_more))]
+#[tactic(auto, using(jd_lists::proofs::Backwards::one_more))]
 fn started(effects: (Result<Expr, NoMemory>, Vec<Expr>)) -> Result<Value, NoMemory>
     ensures { (e : JavaExpr) → Gives java_view effects.0 e → Gives value_view result (values.LoopStart (java.Evaluated (e ∷ backwards java_view effects.1))) }
 {

@@ -10,7 +10,7 @@ use jd_syntax::{Expr, Stmt};
 use std::alloc::Global;
 
 /// The expressions that it is.
-#[tactic(auto, using(jd_java_values::proofs::Backwards::turned))]
+#[tactic(auto, using(jd_lists::proofs::Backwards::turned))]
 pub fn ordered_expressions(alloc: Global, value: Value) -> Vec<Expr>
     ensures { in_order java_view result ≡ plain.expressions_of (value_view value) }
 {
@@ -18,14 +18,14 @@ pub fn ordered_expressions(alloc: Global, value: Value) -> Vec<Expr>
 }
 
 /// The statements that it is.
-#[tactic(auto, using(jd_java_values::proofs::Backwards::turned))]
+#[tactic(auto, using(jd_lists::proofs::Backwards::turned))]
 pub fn ordered_statements(alloc: Global, value: Value) -> Vec<Stmt>
     ensures { in_order java_stmt_view result ≡ plain.statements_of (value_view value) }
 {
     in_order(statements(alloc, value))
 }
 
-#[tactic(auto, using(jd_java_values::proofs::Backwards::turned))]
+#[tactic(auto, using(jd_lists::proofs::Backwards::turned))]
 fn turned(statements: Option<Vec<Stmt>>) -> Option<Vec<Stmt>>
     ensures { option_map (in_order java_stmt_view) result ≡ option_map (backwards java_stmt_view) statements }
 {

@@ -117,7 +117,7 @@ fn listed(statements: Result<Vec<Stmt>, NoMemory>) -> Result<Value, NoMemory>
     Ok(Value::Statements(statements?))
 }
 
-#[tactic(auto, using(jd_java_values::proofs::Backwards::one_more))]
+#[tactic(auto, using(jd_lists::proofs::Backwards::one_more))]
 fn preceded(alloc: Global, statement: Stmt, behind: Value) -> Result<Vec<Stmt>, NoMemory>
     ensures { Gives (backwards java_stmt_view) result (java_stmt_view statement ∷ plain.statements_of (value_view behind)) }
 {

@@ -31,7 +31,7 @@ fn declarator(name: Identifier, value: Option<Expr>) -> Declarator
 }
 
 // A variable's name, its first value, and other variables: of all the last comes first.
-#[tactic(auto, using(jd_java_values::proofs::Backwards::one_more))]
+#[tactic(auto, using(jd_lists::proofs::Backwards::one_more))]
 fn declarators(
     alloc: Global,
     variable: &mut Value,
@@ -46,7 +46,7 @@ fn declarators(
 }
 
 /// The variables in the order of the text.
-#[tactic(auto, using(jd_java_values::proofs::Backwards::turned))]
+#[tactic(auto, using(jd_lists::proofs::Backwards::turned))]
 pub fn ordered_variables(variables: Vec<Declarator>) -> Vec<Declarator>
     ensures { in_order declarator_view result ≡ backwards declarator_view variables }
 {

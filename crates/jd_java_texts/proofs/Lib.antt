@@ -1,5 +1,7 @@
 mod Frames
 mod Shapes
+mod Rows
+mod Expressions
 mod Table
 mod Trees
 mod Leaves

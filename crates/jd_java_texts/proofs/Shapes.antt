@@ -2,7 +2,7 @@
 use Rattle.std.proofs.Common.{◌≡◌, inl, inr, ℕ, zero, suc, List, [], ◌∷◌, ◌++◌, map, Bool, true, false, ◌||◌, cond, Option, Some, None, codes, refl, sym, ap, subst, ◌∙◌, append_assoc}
 use Rattle.std.proofs.lemmas.List.{append-nil}
 use Rattle.std.proofs.lemmas.List.Concat.{flat_map-append}
-use Rattle.jd_grammar.specs.declared.fold.NodeParts.{NodeParts}
+use Rattle.jd_grammar.specs.declared.piles.NodeParts.{NodeParts}
 use Rattle.jd_java_tokens.specs.Contents.{PlainLexeme}
 use Rattle.jd_java_tokens.specs.Heads.{text_of}
 use Rattle.jd_syntax.specs.JavaTypes.{PlainIdentifier, PlainWritten}

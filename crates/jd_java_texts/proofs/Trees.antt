@@ -16,7 +16,8 @@ use Rattle.jd_java_trees.specs.Meaning.{action_of, value_of_node, first_value, u
 use Rattle.jd_java_texts.specs.Texts.{unit_texts}
 use Rattle.jd_java_texts.specs.Kept.{NodeTexts, no_texts, node_texts, texts_of_node, first_of_all, texts_of_tree, IsProper, IsProperNode}
 use Rattle.jd_java_texts.proofs.Frames.{Shown}
-use Rattle.jd_java_texts.proofs.Table.{Fits, Shows, Each, each}
+use Rattle.jd_java_texts.proofs.Rows.{Fits, Shows, Each}
+use Rattle.jd_java_texts.proofs.Table.{each}
 
 -- ---- one production of the list
 

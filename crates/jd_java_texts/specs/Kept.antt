@@ -6,7 +6,7 @@ use Rattle.std.specs.Option.{option_map_or}
 use Rattle.jd_grammar.specs.Grammars.{Production, Forest, Done, Leaf, Node, yield, IsForest}
 use Rattle.jd_grammar.specs.Folds.{values}
 use Rattle.jd_grammar.specs.Nodes.{all_of, filled}
-use Rattle.jd_grammar.specs.declared.fold.NodeParts.{NodeParts}
+use Rattle.jd_grammar.specs.declared.piles.NodeParts.{NodeParts}
 use Rattle.jd_grammar.specs.declared.table.Symbol.{Symbol}
 use Rattle.jd_grammar.specs.declared.table.Symbol.TheVariants.{Token, Name}
 use Rattle.jd_java_grammar.specs.Productions.{java_productions}

@@ -7,6 +7,7 @@ use crate::words::{content_of, kind_of};
 use jd_base::NoMemory;
 use jd_java_grammar::kinds;
 use jd_lex::Token;
+use jd_lists::put;
 use std::alloc::Global;
 
 /// How many JML tokens stand at the head.
@@ -54,7 +55,7 @@ pub fn lexemes<'a>(alloc: Global, tokens: &'a [Token]) -> Result<Vec<Lexeme<'a>>
     let mut number = 0;
     while number < tokens.len() {
         let (lexeme, behind) = lexeme_at(tokens, number);
-        out.push(lexeme)?;
+        put(&mut out, lexeme)?;
         number = behind;
     }
     Ok(out)
@@ -66,7 +67,7 @@ pub fn kinds_of(alloc: Global, lexemes: &[Lexeme<'_>]) -> Result<Vec<u8>, NoMemo
 {
     let mut out = Vec::with_capacity(alloc, lexemes.len())?;
     for lexeme in lexemes {
-        out.push(lexeme.kind)?;
+        put(&mut out, lexeme.kind)?;
     }
     Ok(out)
 }

@@ -1,18 +1,21 @@
 //! The tree of a whole file.
 
-ghost use Rattle.std.specs.Prelude.{◌≡◌, ◌∷◌, OnOk, drop, length, map, reverse, take};
+ghost use Rattle.std.specs.Prelude.{◌≡◌, IfSome, drop, length, map, take};
+ghost use Rattle.jd_grammar.specs.Counted.{IsKept, IsQuiet, shown};
 ghost use Rattle.jd_grammar.specs.Nodes.{IsRead, IsReadAs, Rooted, all_of};
 ghost use Rattle.jd_java_attributes.specs.Judging.{names_of};
 ghost use Rattle.jd_java_tokens.specs.Lexemes.{lexeme_view};
 ghost use Rattle.jd_java_values.specs.Values.{Nothing};
 ghost use Rattle.jd_java_values.specs.Views.{Gives, parts_view, value_view};
+ghost use Rattle.jd_java_values.specs.declared.values.Value.TheVariants.{NoSuffixes};
 ghost use Rattle.jd_java_trees.specs.Meaning.{meaning_by, unit_by, unit_of, value_of_node};
+ghost use Rattle.jd_java_trees.specs.Short.{IsValueAt};
 ghost use Rattle.jd_syntax.specs.JavaTrees.{unit_view};
 
 use crate::actions::{Action, action_at};
-use crate::short::{is_blank, keeps_first, keeps_only};
+use crate::short::{kept_parts, quiet_parts};
 use jd_base::NoMemory;
-use jd_grammar::{NodeParts, Nodes, drop_second, put, take_parts, value_of};
+use jd_grammar::{NodeParts, Nodes, Piles, value_of};
 use jd_java_attributes::names_of;
 use jd_java_expressions::act as act_on_expression;
 use jd_java_members::act as act_on_member;
@@ -53,12 +56,12 @@ fn made(
     alloc: Global,
     production: u16,
     tokens: &[Lexeme<'_>],
-    stack: &mut Vec<Value>,
+    piles: &mut Piles<Value>,
 ) -> Result<Value, NoMemory>
-    ensures value { Gives value_view result (value_of_node production (map lexeme_view tokens.now) (map value_view (take (names_of production) (reverse stack.old.items)))) }
-    ensures rest { reverse stack.new.items ≡ drop (names_of production) (reverse stack.old.items) }
+    ensures value { Gives value_view result (value_of_node production (map lexeme_view tokens.now) (map value_view (take (names_of production) (shown NoSuffixes piles.old)))) }
+    ensures rest { shown NoSuffixes piles.new ≡ drop (names_of production) (shown NoSuffixes piles.old) }
 {
-    let mut parts = take_parts(stack, names_of(production), nothing());
+    let mut parts = piles.take_parts(names_of(production), nothing());
     act(alloc, action_at(production), tokens, &mut parts)
 }
 
@@ -67,31 +70,31 @@ fn made(
 pub struct TreeNodes;
 
 impl<'a> Nodes<Lexeme<'a>, Value> for TreeNodes {
-    ghost count = { λ _ p. names_of p };
+    ghost count = { λ _. names_of };
 
-    ghost stands = { λ _ p ts us v. value_view v ≡ value_of_node p (map lexeme_view ts) (map value_view us) };
+    ghost stands = { λ _. IsValueAt };
+
+    fn quiet_parts(&self, production: u16) -> Option<u8>
+        ensures { IfSome result (λ n. IsQuiet names_of IsValueAt NoSuffixes production n) }
+    {
+        quiet_parts(production)
+    }
+
+    fn kept_parts(&self, production: u16, first: &Value) -> Option<u8>
+        ensures { IfSome result (λ n. IsKept names_of IsValueAt NoSuffixes production n first.now) }
+    {
+        kept_parts(production, first)
+    }
 
     fn reduce(
         &self,
         alloc: Global,
         production: u16,
         tokens: &[Lexeme<'a>],
-        stack: &mut Vec<Value>,
-    ) -> Result<(), NoMemory>
-        ensures { OnOk result ((v : Value) × (value_view v ≡ value_of_node production (map lexeme_view tokens.now) (map value_view (take (names_of production) (reverse stack.old.items)))) × (reverse stack.new.items ≡ v ∷ drop (names_of production) (reverse stack.old.items))) }
-    {
-        if is_blank(production) {
-            return put(stack, Value::Suffixes(Vec::new(alloc)));
-        }
-        if keeps_first(production, &*stack) {
-            drop_second(stack);
-            return Ok(());
-        }
-        if keeps_only(production, &*stack) {
-            return Ok(());
-        }
-        let value = made(alloc, production, tokens, stack)?;
-        put(stack, value)
+        piles: &mut Piles<Value>,
+    ) -> Result<(), NoMemory> {
+        let value = made(alloc, production, tokens, piles)?;
+        piles.add(value)
     }
 }
 

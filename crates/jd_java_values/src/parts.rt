@@ -8,18 +8,15 @@ ghost use Rattle.jd_jcalls.specs.Handlers.{java_handler_view};
 ghost use Rattle.jd_java_values.specs.Parts as plain;
 ghost use Rattle.jd_java_values.specs.Views.{Gives, backwards, boxed_view, declared_view, suffix_view, value_view};
 
-use crate::lists::boxed;
 use crate::values::{Declared, Suffix, Value};
 use jd_base::NoMemory;
+use jd_lists::{boxed, discard};
 use jd_syntax::{
     ClassDecl, Declarator, Expr, ExprForm, Handler, Identifier, JavaType, Member, Parameter,
     SpecBlock, Stmt, StmtForm, WrittenType,
 };
 use std::alloc::Global;
 use std::mem;
-
-/// Lets a value go.
-pub fn discard<T: Drop>(_value: T) {}
 
 /// The value, in whose place nothing is left.
 pub fn taken(value: &mut Value) -> Value

@@ -1,3 +1,6 @@
+ghost use Rattle.jd_java_values.specs.declared.values.Value.TheVariants as values;
+
+use jd_grammar::Blank;
 use jd_syntax::{
     AssignmentOperator, ClassDecl, CountOperator, Declarator, Expr, ForStart, Handler, Identifier,
     InfixOperator, Member, Parameter, ResultType, SpecBlock, Stmt, WrittenType,
@@ -55,6 +58,8 @@ pub enum Value {
     Nothing,
     /// An expression.
     Expression(Expr),
+    /// Nothing behind an operand.
+    NoSuffixes,
     /// What stands behind an operand.
     Suffixes(Vec<Suffix>),
     /// An operand whose first token stands before the node, and what stands behind it, the last part first.
@@ -101,4 +106,12 @@ pub enum Value {
     Body(Vec<Member>, Option<SpecBlock>),
     /// Classes.
     Classes(Vec<ClassDecl>),
+}
+
+impl Blank for Value {
+    ghost nothing = { values.NoSuffixes };
+
+    fn nothing() -> Value {
+        Value::NoSuffixes
+    }
 }

@@ -1,3 +1,5 @@
 mod Fitting
 mod Names
 mod Views
+mod Settled
+mod Levels

@@ -2,7 +2,7 @@
 use Rattle.std.proofs.Common.{◌≡◌, ℕ, List, [], ◌∷◌, map, take, drop, refl, sym, ap, ap₂, ◌∙◌}
 use Rattle.jd_grammar.specs.Grammars.{Forest}
 use Rattle.jd_grammar.specs.Nodes.{StandFor, all_of, filled}
-use Rattle.jd_grammar.specs.declared.fold.NodeParts.{NodeParts}
+use Rattle.jd_grammar.specs.declared.piles.NodeParts.{NodeParts}
 use Rattle.jd_grammar.proofs.Walks.{made_values}
 use Rattle.jd_jml_tokens.specs.declared.lexeme.Lexeme.{Lexeme}
 use Rattle.jd_jml_tokens.specs.Lexemes.{PlainLexeme, lexeme_view}

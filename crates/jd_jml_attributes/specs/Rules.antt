@@ -1,6 +1,6 @@
 -- What a node's rule makes of the attributes of its parts.
 use Rattle.std.specs.Prelude.{ℕ, zero, suc, List, slice_index_or, cond, nat_lt, Bool, Option, Some, None}
-use Rattle.jd_grammar.specs.declared.fold.NodeParts.{NodeParts}
+use Rattle.jd_grammar.specs.declared.piles.NodeParts.{NodeParts}
 use Rattle.jd_jml_tokens.specs.Lexemes.{PlainLexeme, place_of, text_of}
 use Rattle.jd_jml_attributes.specs.declared.rows.TheConstants.{ROWS, NO_ROW}
 use Rattle.jd_jml_attributes.specs.declared.rows.Rule.{Rule}

@@ -7,6 +7,7 @@ mod laws;
 mod nodes;
 mod rows;
 mod rules;
+mod short;
 
 pub use form::{Form, Kind, Link};
 pub use laws::rows_fit;

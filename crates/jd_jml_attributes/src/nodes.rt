@@ -1,17 +1,20 @@
 //! The attributes of the JML at a whole place.
 
-ghost use Rattle.std.specs.Prelude.{◌≡◌, ◌∷◌, IfOk, OnOk, drop, length, map, reverse, take};
+ghost use Rattle.std.specs.Prelude.{◌≡◌, IfOk, IfSome, length, map};
+ghost use Rattle.jd_grammar.specs.Counted.{IsKept, IsQuiet};
 ghost use Rattle.jd_grammar.specs.Nodes.{IsRead, IsReadAs, Rooted};
 ghost use Rattle.jd_jml_tokens.specs.Lexemes.{lexeme_view};
 ghost use Rattle.jd_jml_attributes.specs.Forms.{form_view};
 ghost use Rattle.jd_jml_attributes.specs.Judging as plain;
-ghost use Rattle.jd_jml_attributes.specs.Judging.{form_of_node, names_of};
+ghost use Rattle.jd_jml_attributes.specs.Judging.{names_of};
+ghost use Rattle.jd_jml_attributes.specs.Short.{IsFormAt, no_form};
 
 use crate::form::{EMPTY, Form};
 use crate::rows::{names_of, row};
 use crate::rules::form_of;
+use crate::short::{kept_parts, quiet_parts};
 use jd_base::NoMemory;
-use jd_grammar::{NodeParts, Nodes, put, take_parts, value_of};
+use jd_grammar::{Blank, NodeParts, Nodes, Piles, value_of};
 use jd_jml_tokens::Lexeme;
 use std::alloc::Global;
 
@@ -26,23 +29,41 @@ const NOTHING: NodeParts<Form<'static>> = NodeParts {
 #[derive(Clone, Copy)]
 pub struct JmlNodes;
 
-impl<'a> Nodes<Lexeme<'a>, Form<'a>> for JmlNodes {
-    ghost count = { λ _ p. names_of p };
+impl<'a> Blank for Form<'a> {
+    ghost nothing = { no_form };
 
-    ghost stands = { λ _ p ts us v. form_view v ≡ form_of_node p (map lexeme_view ts) (map form_view us) };
+    fn nothing() -> Form<'a> {
+        EMPTY
+    }
+}
+
+impl<'a> Nodes<Lexeme<'a>, Form<'a>> for JmlNodes {
+    ghost count = { λ _. names_of };
+
+    ghost stands = { λ _. IsFormAt };
+
+    fn quiet_parts(&self, production: u16) -> Option<u8>
+        ensures { IfSome result (λ n. IsQuiet names_of IsFormAt no_form production n) }
+    {
+        quiet_parts(production)
+    }
+
+    fn kept_parts(&self, production: u16, first: &Form<'a>) -> Option<u8>
+        ensures { IfSome result (λ n. IsKept names_of IsFormAt no_form production n first.now) }
+    {
+        kept_parts(production, first)
+    }
 
     fn reduce(
         &self,
         _alloc: Global,
         production: u16,
         tokens: &[Lexeme<'a>],
-        stack: &mut Vec<Form<'a>>,
-    ) -> Result<(), NoMemory>
-        ensures { OnOk result ((v : Form) × (form_view v ≡ form_of_node production (map lexeme_view tokens.now) (map form_view (take (names_of production) (reverse stack.old.items)))) × (reverse stack.new.items ≡ v ∷ drop (names_of production) (reverse stack.old.items))) }
-    {
+        piles: &mut Piles<Form<'a>>,
+    ) -> Result<(), NoMemory> {
         let (_, rule) = row(production);
-        let parts = take_parts(stack, names_of(production), NOTHING);
-        put(stack, form_of(rule, tokens, parts))
+        let parts = piles.take_parts(names_of(production), NOTHING);
+        piles.add(form_of(rule, tokens, parts))
     }
 }
 

@@ -1,6 +1,6 @@
 -- What a node of clauses or locations stands for, by its action, its tokens from the first on, and what its parts stand for.
 use Rattle.std.specs.Prelude.{ℕ, List, [], ◌∷◌, ◌++◌, Bool, false}
-use Rattle.jd_grammar.specs.declared.fold.NodeParts.{NodeParts}
+use Rattle.jd_grammar.specs.declared.piles.NodeParts.{NodeParts}
 use Rattle.jd_jml_tokens.specs.Lexemes.{PlainLexeme, place_of}
 use Rattle.jd_syntax.specs.SpecTrees as jml
 use Rattle.jd_syntax.specs.SpecTrees.{PlainSpec, PlainClause, Signals, SignalsOnly, Assignable, Diverges, Nothing, Everything}

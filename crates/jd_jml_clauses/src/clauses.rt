@@ -16,8 +16,8 @@ use jd_base::NoMemory;
 use jd_grammar::NodeParts;
 use jd_jml_tokens::{Lexeme, place_of};
 use jd_jml_values::{
-    Value, appended, clauses, discard, expression, locations, name, names, some_name, taken,
-    turned, with,
+    Value, appended, clauses, discard, expression, in_order, locations, name, names, some_name,
+    taken, with,
 };
 use jd_syntax::{ClauseForm, Identifier, SpecClause, SpecExpr, SpecForm};
 use std::alloc::Global;
@@ -30,7 +30,7 @@ fn given(clauses: Result<Vec<SpecClause>, NoMemory>) -> Result<Value, NoMemory>
 }
 
 // A clause before others.
-#[tactic(auto, using(jd_jml_values::proofs::Backwards::last_first))]
+#[tactic(auto, using(jd_lists::proofs::Backwards::last_first))]
 fn clause_before(clause: SpecClause, others: Vec<SpecClause>) -> Result<Value, NoMemory>
     ensures { Gives value_view result (values.Clauses (clause_view clause ∷ backwards clause_view others)) }
 {
@@ -46,7 +46,7 @@ fn clause(alloc: Global, tokens: &[Lexeme<'_>], form: ClauseForm) -> Result<Valu
 }
 
 // The clauses of a last part, if it has some, behind others; no list but a short one is copied.
-#[tactic(auto, using(jd_jml_values::proofs::Backwards::reversed_append, crate::proofs::Lists::nothing_behind))]
+#[tactic(auto, using(jd_lists::proofs::Backwards::reversed_append, crate::proofs::Lists::nothing_behind))]
 fn ended(others: Vec<SpecClause>, last: Value) -> Result<Vec<SpecClause>, NoMemory>
     ensures { Gives (backwards clause_view) result (backwards clause_view others ++ part.clauses_of (value_view last)) }
 {
@@ -60,7 +60,7 @@ fn ended(others: Vec<SpecClause>, last: Value) -> Result<Vec<SpecClause>, NoMemo
 }
 
 // The clauses of the parts, the last first.
-#[tactic(auto, using(jd_jml_values::proofs::Backwards::reversed_append))]
+#[tactic(auto, using(jd_lists::proofs::Backwards::reversed_append))]
 fn all(alloc: Global, parts: &mut NodeParts<Value>) -> Result<Vec<SpecClause>, NoMemory>
     ensures { Gives (backwards clause_view) result (plain.all_clauses (parts_view parts.old)) }
 {
@@ -154,7 +154,7 @@ pub fn signals(
 }
 
 /// `signals_only C, ..;`
-#[tactic(auto, using(jd_jml_values::proofs::Backwards::map_reverse))]
+#[tactic(auto, using(jd_lists::proofs::Backwards::map_reverse))]
 pub fn signals_only(
     alloc: Global,
     tokens: &[Lexeme<'_>],
@@ -162,12 +162,12 @@ pub fn signals_only(
 ) -> Result<Value, NoMemory>
     ensures { Gives value_view result (meaning actions.SignalsOnly (map lexeme_view tokens.now) (parts_view parts.old)) }
 {
-    let classes = turned(names(alloc, &mut parts.first));
+    let classes = in_order(names(alloc, &mut parts.first));
     clause(alloc, tokens, ClauseForm::SignalsOnly(classes))
 }
 
 /// `assignable l, ..;`
-#[tactic(auto, using(jd_jml_values::proofs::Backwards::map_reverse))]
+#[tactic(auto, using(jd_lists::proofs::Backwards::map_reverse))]
 pub fn assignable(
     alloc: Global,
     tokens: &[Lexeme<'_>],
@@ -175,7 +175,7 @@ pub fn assignable(
 ) -> Result<Value, NoMemory>
     ensures { Gives value_view result (meaning actions.Assignable (map lexeme_view tokens.now) (parts_view parts.old)) }
 {
-    let locations = turned(locations(alloc, &mut parts.first));
+    let locations = in_order(locations(alloc, &mut parts.first));
     clause(alloc, tokens, ClauseForm::Assignable(locations))
 }
 
@@ -211,7 +211,7 @@ fn given_names(names: Result<Vec<Identifier>, NoMemory>) -> Result<Value, NoMemo
 }
 
 /// A name, and others.
-#[tactic(auto, using(jd_jml_values::proofs::Backwards::last_first))]
+#[tactic(auto, using(jd_lists::proofs::Backwards::last_first))]
 pub fn more_names(alloc: Global, parts: &mut NodeParts<Value>) -> Result<Value, NoMemory>
     ensures { Gives value_view result (meaning actions.Names [] (parts_view parts.old)) }
 {

@@ -18,8 +18,8 @@ use jd_grammar::NodeParts;
 use jd_jml_expressions::{all_applied, begun_at, named};
 use jd_jml_tokens::{Lexeme, place_of};
 use jd_jml_values::{
-    End, Suffix, Value, appended, discard, expression, expressions, locations, name, steps, taken,
-    turned, with,
+    End, Suffix, Value, appended, discard, expression, expressions, in_order, locations, name,
+    steps, taken, with,
 };
 use jd_syntax::{Identifier, LocExpr, LocForm, SpecExpr};
 use std::alloc::Global;
@@ -46,7 +46,7 @@ pub fn location(alloc: Global, at: u32, form: LocForm) -> Result<Value, NoMemory
 }
 
 /// The locations of both parts.
-#[tactic(auto, using(jd_jml_values::proofs::Backwards::reversed_append))]
+#[tactic(auto, using(jd_lists::proofs::Backwards::reversed_append))]
 pub fn both_locations(alloc: Global, parts: &mut NodeParts<Value>) -> Result<Value, NoMemory>
     ensures { Gives value_view result (meaning actions.Locations [] (parts_view parts.old)) }
 {
@@ -95,7 +95,7 @@ fn located(
 }
 
 // A location that begins with a name.
-#[tactic(auto, using(jd_jml_values::proofs::Backwards::map_reverse))]
+#[tactic(auto, using(jd_lists::proofs::Backwards::map_reverse))]
 fn named_location(alloc: Global, name: Identifier, behind: Value) -> Result<Value, NoMemory>
     ensures { Gives value_view result (values.Locations (plain.named_location (identifier_view name) (value_view behind) ∷ [])) }
 {
@@ -105,7 +105,7 @@ fn named_location(alloc: Global, name: Identifier, behind: Value) -> Result<Valu
         Value::Invoked(arguments, steps, end) => located(
             alloc,
             at,
-            named(alloc, name, Some(turned(arguments))),
+            named(alloc, name, Some(in_order(arguments))),
             (steps, end),
         ),
         other => {
@@ -168,14 +168,14 @@ fn steps_to(steps: Result<Vec<Suffix>, NoMemory>, end: End) -> Result<Value, NoM
 }
 
 // A member, and what stands behind it.
-#[tactic(auto, using(jd_jml_values::proofs::Backwards::last_first, jd_jml_values::proofs::Backwards::map_reverse))]
+#[tactic(auto, using(jd_lists::proofs::Backwards::last_first, jd_lists::proofs::Backwards::map_reverse))]
 fn member_behind(alloc: Global, name: Identifier, behind: Value) -> Result<Value, NoMemory>
     ensures { Gives value_view result (plain.member_step (identifier_view name) (value_view behind)) }
 {
     match behind {
         Value::Steps(steps, end) => steps_to(with(steps, Suffix::Member(name)), end),
         Value::Invoked(arguments, steps, end) => steps_to(
-            with(steps, Suffix::Method(name, turned(arguments))),
+            with(steps, Suffix::Method(name, in_order(arguments))),
             end,
         ),
         other => {
@@ -194,7 +194,7 @@ pub fn member_step(alloc: Global, parts: &mut NodeParts<Value>) -> Result<Value,
 }
 
 // An index, and what stands behind it.
-#[tactic(auto, using(jd_jml_values::proofs::Backwards::last_first))]
+#[tactic(auto, using(jd_lists::proofs::Backwards::last_first))]
 fn index_behind(alloc: Global, index: Box<SpecExpr>, behind: Value) -> Result<Value, NoMemory>
     ensures { Gives value_view result (plain.index_step (boxed_view index) (value_view behind)) }
 {

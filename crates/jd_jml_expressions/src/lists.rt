@@ -14,18 +14,18 @@ use crate::applying::joined;
 use jd_base::{NoMemory, both};
 use jd_grammar::NodeParts;
 use jd_jml_values::{
-    Suffix, Value, arguments, expression, expressions, name, suffixes, turned, typed, with,
+    Suffix, Value, arguments, expression, expressions, in_order, name, suffixes, typed, with,
 };
 use jd_syntax::{InfixOperator, SpecExpr};
 use std::alloc::Global;
 
 /// The arguments of a call from the first on, if it is one.
-#[tactic(auto, using(jd_jml_values::proofs::Backwards::map_reverse))]
+#[tactic(auto, using(jd_lists::proofs::Backwards::map_reverse))]
 pub fn ordered_arguments(value: &mut Value) -> Option<Vec<SpecExpr>>
     ensures { option_map (in_order spec_view) result ≡ arguments_of (value_view value.old) }
 {
     match arguments(value) {
-        Some(expressions) => Some(turned(expressions)),
+        Some(expressions) => Some(in_order(expressions)),
         None => None,
     }
 }
@@ -38,7 +38,7 @@ fn given_expressions(expressions: Result<Vec<SpecExpr>, NoMemory>) -> Result<Val
 }
 
 /// An expression, and others.
-#[tactic(auto, using(jd_jml_values::proofs::Backwards::last_first))]
+#[tactic(auto, using(jd_lists::proofs::Backwards::last_first))]
 pub fn more_expressions(alloc: Global, parts: &mut NodeParts<Value>) -> Result<Value, NoMemory>
     ensures { Gives value_view result (meaning actions.Expressions [] (parts_view parts.old)) }
 {
@@ -55,7 +55,7 @@ fn given(suffixes: Result<Vec<Suffix>, NoMemory>) -> Result<Value, NoMemory>
 }
 
 // A suffix, if it has been made, and others behind it.
-#[tactic(auto, using(jd_jml_values::proofs::Backwards::last_first))]
+#[tactic(auto, using(jd_lists::proofs::Backwards::last_first))]
 fn before(suffix: Result<Suffix, NoMemory>, behind: Vec<Suffix>) -> Result<Vec<Suffix>, NoMemory>
     ensures { (x : PlainSuffix) → Gives suffix_view suffix x → Gives (backwards suffix_view) result (x ∷ backwards suffix_view behind) }
 {

@@ -145,7 +145,7 @@ pub fn boolean_cast(
 }
 
 // What begins so, with more behind it.
-#[tactic(auto, using(jd_jml_values::proofs::Backwards::reversed_append))]
+#[tactic(auto, using(jd_lists::proofs::Backwards::reversed_append))]
 fn followed_by(value: Value, more: Vec<Suffix>) -> Result<Value, NoMemory>
     ensures { Gives value_view result (plain.followed (value_view value) (backwards suffix_view more)) }
 {

@@ -3,7 +3,8 @@ use Rattle.std.specs.Prelude.{ℕ, Bool, map, nat_eq}
 use Rattle.std.specs.List.{list_any}
 use Rattle.jd_grammar.specs.Tables.{PlainTable, production}
 use Rattle.jd_jml_grammar.specs.declared.names.TheConstants.{STARTS}
-use Rattle.jd_jml_grammar.specs.declared.table.TheConstants.{RULES, SYMBOLS, ROWS, WIDTH, WEIGHTS, SOLID}
+use Rattle.jd_jml_grammar.specs.declared.rows.TheConstants.{ROWS, WIDTH, WEIGHTS, SOLID}
+use Rattle.jd_jml_grammar.specs.declared.rules.TheConstants.{RULES, SYMBOLS}
 
 unfoldable pub jml : PlainTable
 jml = record { productions = map (production SYMBOLS) RULES; rows = ROWS; width = WIDTH; starts = STARTS; weights = WEIGHTS; solid = SOLID }

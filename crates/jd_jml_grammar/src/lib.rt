@@ -11,7 +11,8 @@ ghost use Rattle.jd_jml_grammar.specs.Productions.{jml_productions};
 pub mod kinds;
 mod laws;
 pub mod names;
-mod table;
+mod rows;
+mod rules;
 
 use jd_grammar::{Refusal, Table, parse};
 pub use laws::one_derivation;
@@ -22,13 +23,13 @@ fn jml_table() -> Table<'static>
     ensures { plain result ≡ jml }
 {
     Table {
-        rules: &table::RULES,
-        symbols: &table::SYMBOLS,
-        rows: &table::ROWS,
-        width: table::WIDTH,
+        rules: &rules::RULES,
+        symbols: &rules::SYMBOLS,
+        rows: &rows::ROWS,
+        width: rows::WIDTH,
         starts: &names::STARTS,
-        weights: &table::WEIGHTS,
-        solid: &table::SOLID,
+        weights: &rows::WEIGHTS,
+        solid: &rows::SOLID,
     }
 }
 

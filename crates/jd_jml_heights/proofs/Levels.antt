@@ -1,6 +1,6 @@
 -- How high forms are and how many levels they add, by numbers of which those above 201 are not told apart.
 use Rattle.std.proofs.Common.{◌≡◌, ℕ, ◌+◌, ◌≤◌, min, max, refl, sym, ap, subst, ◌∙◌, arith}
-use Rattle.jd_grammar.specs.declared.fold.NodeParts.{NodeParts}
+use Rattle.jd_grammar.specs.declared.piles.NodeParts.{NodeParts}
 use Rattle.jd_jml_attributes.specs.Forms.{PlainKind, Same, Other, PlainForm, empty, behind, in_order}
 use Rattle.jd_jml_attributes.specs.Rules.{rest, all_in_order, suffix, closed, parenthesized, step_before}
 

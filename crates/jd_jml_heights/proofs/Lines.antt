@@ -1,6 +1,6 @@
 -- What each form of a node tells, where its parts tell what their names say.
 use Rattle.std.proofs.Common.{◌≡◌, ◌⊎◌, inl, inr, ℕ, suc, ◌+◌, ◌≤◌, max, List, [], ◌∷◌, ◌++◌, length, Some, None, refl, sym, ap, subst, ◌∙◌, arith}
-use Rattle.jd_grammar.specs.declared.fold.NodeParts.{NodeParts}
+use Rattle.jd_grammar.specs.declared.piles.NodeParts.{NodeParts}
 use Rattle.jd_jml_tokens.specs.Lexemes.{PlainLexeme}
 use Rattle.jd_syntax.specs.JavaTypes.{PlainIdentifier, PlainWritten, IntType, IntArrayType}
 use Rattle.jd_syntax.specs.SpecTrees as jml

@@ -4,7 +4,7 @@ use Rattle.std.proofs.lemmas.Bool.Decides.{nat_tests}
 use Rattle.jd_grammar.specs.Grammars.{Forest, Done, Leaf, Node, yield}
 use Rattle.jd_grammar.specs.Folds.{values}
 use Rattle.jd_grammar.specs.Nodes.{all_of, filled}
-use Rattle.jd_grammar.specs.declared.fold.NodeParts.{NodeParts}
+use Rattle.jd_grammar.specs.declared.piles.NodeParts.{NodeParts}
 use Rattle.jd_jml_tokens.specs.Lexemes.{PlainLexeme, place_of}
 use Rattle.jd_jml_attributes.specs.declared.rows.Rule.{Rule}
 use Rattle.jd_jml_attributes.specs.declared.rows.Rule.TheVariants as rules

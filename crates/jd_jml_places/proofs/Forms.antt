@@ -1,7 +1,7 @@
 -- Attributes, without places.
 use Rattle.std.proofs.Common.{◌≡◌, ℕ, zero, suc, List, [], ◌∷◌, map, Bool, true, false, cond, nat_lt, Option, Some, None, refl, ap, ◌∙◌}
 use Rattle.jd_grammar.specs.Nodes.{all_of, filled}
-use Rattle.jd_grammar.specs.declared.fold.NodeParts.{NodeParts}
+use Rattle.jd_grammar.specs.declared.piles.NodeParts.{NodeParts}
 use Rattle.jd_jml_tokens.specs.Lexemes.{PlainLexeme, place_of}
 use Rattle.jd_jml_attributes.specs.declared.rows.Rule.{Rule}
 use Rattle.jd_jml_attributes.specs.declared.rows.Rule.TheVariants as rules

@@ -1,7 +1,7 @@
 -- What a name of the grammar tells, by its role, and what is to be shown of each production.
 use Rattle.std.proofs.Common.{◌≡◌, ◌⊎◌, inl, inr, ℕ, ◌+◌, List, [], ◌∷◌, Option, Some, None, slice_index_or}
 use Rattle.jd_grammar.specs.Grammars.{Production}
-use Rattle.jd_grammar.specs.declared.fold.NodeParts.{NodeParts}
+use Rattle.jd_grammar.specs.declared.piles.NodeParts.{NodeParts}
 use Rattle.jd_grammar.specs.declared.table.Symbol.{Symbol}
 use Rattle.jd_grammar.specs.declared.table.Symbol.TheVariants.{Token, Name}
 use Rattle.jd_jml_tokens.specs.Lexemes.{PlainLexeme}

@@ -1,6 +1,6 @@
 -- What a rule tells of the parts of a node without fault, and of what they make.
 use Rattle.std.proofs.Common.{◌≡◌, ◌⊎◌, inl, inr, ℕ, List, [], Option, Some, None, refl, sym, ap, subst, ◌∙◌}
-use Rattle.jd_grammar.specs.declared.fold.NodeParts.{NodeParts}
+use Rattle.jd_grammar.specs.declared.piles.NodeParts.{NodeParts}
 use Rattle.jd_syntax.specs.JavaTypes.{PlainIdentifier}
 use Rattle.jd_syntax.specs.SpecTrees as jml
 use Rattle.jd_syntax.specs.SpecTrees.{PlainSpec}

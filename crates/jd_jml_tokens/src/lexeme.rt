@@ -8,6 +8,7 @@ ghost use Rattle.jd_jml_tokens.specs.Lexemes.{lexeme_view, lexemes_of};
 use crate::words::kind_of;
 use jd_base::NoMemory;
 use jd_lex::Token;
+use jd_lists::put;
 use std::alloc::Global;
 
 /// A token of the grammar of JML.
@@ -26,7 +27,7 @@ pub fn lexemes<'a>(alloc: Global, tokens: &'a [Token]) -> Result<Vec<Lexeme<'a>>
     let mut out = Vec::with_capacity(alloc, tokens.len())?;
     for token in tokens {
         let kind = kind_of(&token.kind);
-        out.push(Lexeme { kind, token })?;
+        put(&mut out, Lexeme { kind, token })?;
     }
     Ok(out)
 }
@@ -37,7 +38,7 @@ pub fn kinds_of(alloc: Global, lexemes: &[Lexeme<'_>]) -> Result<Vec<u8>, NoMemo
 {
     let mut out = Vec::with_capacity(alloc, lexemes.len())?;
     for lexeme in lexemes {
-        out.push(lexeme.kind)?;
+        put(&mut out, lexeme.kind)?;
     }
     Ok(out)
 }

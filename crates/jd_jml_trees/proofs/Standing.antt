@@ -1,18 +1,23 @@
 -- What the code's nodes stand for.
-use Rattle.std.proofs.Common.{◌≡◌, ℕ, List, [], ◌∷◌, map, take, drop, refl, ap, ap₂, ◌∙◌}
+use Rattle.std.proofs.Common.{◌≡◌, ℕ, List, [], ◌∷◌, map, take, drop, refl, sym, ap, ap₂, ◌∙◌}
+use Rattle.jd_grammar.specs.Counted.{IsKept, IsQuiet}
 use Rattle.jd_grammar.specs.Grammars.{Forest}
 use Rattle.jd_grammar.specs.Nodes.{StandFor, all_of, filled}
-use Rattle.jd_grammar.specs.declared.fold.NodeParts.{NodeParts}
+use Rattle.jd_grammar.specs.declared.piles.NodeParts.{NodeParts}
 use Rattle.jd_grammar.proofs.Walks.{made_values}
 use Rattle.jd_jml_attributes.specs.Judging.{names_of}
 use Rattle.jd_jml_tokens.specs.Lexemes.{PlainLexeme, lexeme_view}
 use Rattle.jd_jml_tokens.specs.declared.lexeme.Lexeme.{Lexeme}
-use Rattle.jd_jml_values.specs.Parts.{clauses_of}
-use Rattle.jd_jml_values.specs.Values.{Nothing}
+use Rattle.jd_jml_expressions.specs.declared.action.Action.TheVariants as actions
+use Rattle.jd_jml_values.specs.Parts.{clauses_of, expression_of}
+use Rattle.jd_jml_values.specs.Values.{Expression, Nothing, Suffixes}
 use Rattle.jd_jml_values.specs.Views.{parts_view, value_view}
 use Rattle.jd_jml_values.specs.declared.values.Value.{Value}
+use Rattle.jd_jml_values.specs.declared.values.Value.TheVariants.{NoSuffixes}
 use Rattle.jd_jml_trees.specs.Meaning.{action_of, clauses_of_tree, first_value, meaning_by, value_of_node}
+use Rattle.jd_jml_trees.specs.Short.{IsValueAt}
 use Rattle.jd_jml_trees.specs.declared.actions.Action.{Action}
+use Rattle.jd_jml_trees.specs.declared.actions.Action.TheVariants as code
 
 filled_views : (none : NodeParts Value) (parts : List Value) → parts_view (filled none parts) ≡ filled (parts_view none) (map value_view parts)
 filled_views none [] = refl
@@ -33,3 +38,23 @@ stands f ts v s = ap (λ vs. clauses_of (first_value vs)) (made_values _ value_v
 -- what is left on the stack
 pub drop_as : {V : Type 0} (p : ℕ) (stack : List V) (n : ℕ) (rest : List V) → n ≡ names_of p → rest ≡ drop n stack → rest ≡ drop (names_of p) stack
 drop_as p stack n rest count is = is ∙ ap (λ k. drop k stack) count
+
+-- ---- nodes for which nothing is taken off
+
+pub quiet : (p n : ℕ) (action : Action) → n ≡ names_of p → n ≡ 0 → action ≡ action_of p → action ≡ code.Expression actions.NoSuffixes → IsQuiet names_of IsValueAt NoSuffixes p 0
+quiet p n action count none of is = record {
+  names = sym count ∙ none;
+  quiet = λ ts. sym (ap (λ (a : Action). meaning_by a (map lexeme_view ts) (all_of Nothing)) (sym of ∙ is));
+}
+
+pub keeps : (p n : ℕ) (action : Action) (v : Value) → n ≡ names_of p → n ≡ 2 → action ≡ action_of p → action ≡ code.Expression actions.Operand → Expression (expression_of (value_view v)) ≡ value_view v → IsKept names_of IsValueAt NoSuffixes p 1 v
+keeps p n action v count two of is operand = record {
+  names = sym count ∙ two;
+  keeps = λ ts. sym (ap (λ (a : Action). meaning_by a (map lexeme_view ts) (filled (all_of Nothing) (value_view v ∷ Suffixes [] ∷ []))) (sym of ∙ is) ∙ operand);
+}
+
+pub only : (p n : ℕ) (action : Action) (v : Value) → n ≡ names_of p → n ≡ 1 → action ≡ action_of p → action ≡ code.Expression actions.First → IsKept names_of IsValueAt NoSuffixes p 0 v
+only p n action v count one of is = record {
+  names = sym count ∙ one;
+  keeps = λ ts. sym (ap (λ (a : Action). meaning_by a (map lexeme_view ts) (filled (all_of Nothing) (value_view v ∷ []))) (sym of ∙ is));
+}

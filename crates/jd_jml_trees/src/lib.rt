@@ -3,6 +3,7 @@
 
 mod actions;
 mod nodes;
+mod short;
 
 pub use actions::Action;
 pub use nodes::{TreeNodes, clauses_of};

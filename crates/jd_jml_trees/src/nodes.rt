@@ -1,23 +1,27 @@
 //! The clauses of the JML at a whole place.
 
-ghost use Rattle.std.specs.Prelude.{◌≡◌, ◌∷◌, OnOk, drop, length, map, reverse, take};
+ghost use Rattle.std.specs.Prelude.{◌≡◌, IfSome, length, map};
+ghost use Rattle.jd_grammar.specs.Counted.{IsKept, IsQuiet};
 ghost use Rattle.jd_grammar.specs.Nodes.{IsRead, IsReadAs, Rooted, all_of};
 ghost use Rattle.jd_jml_attributes.specs.Judging.{names_of as the_names};
 ghost use Rattle.jd_jml_tokens.specs.Lexemes.{lexeme_view};
 ghost use Rattle.jd_jml_values.specs.Parts as part;
 ghost use Rattle.jd_jml_values.specs.Values.{Nothing};
 ghost use Rattle.jd_jml_values.specs.Views.{Gives, in_order, parts_view, value_view};
-ghost use Rattle.jd_jml_trees.specs.Meaning.{clauses_of_tree, meaning_by, value_of_node};
+ghost use Rattle.jd_jml_trees.specs.Meaning.{clauses_of_tree, meaning_by};
+ghost use Rattle.jd_jml_trees.specs.Short.{IsValueAt};
+ghost use Rattle.jd_jml_values.specs.declared.values.Value.TheVariants.{NoSuffixes};
 ghost use Rattle.jd_syntax.specs.SpecTrees.{clause_view};
 
 use crate::actions::{Action, action_at};
+use crate::short::{kept_parts, quiet_parts};
 use jd_base::NoMemory;
-use jd_grammar::{NodeParts, Nodes, put, take_parts, value_of};
+use jd_grammar::{NodeParts, Nodes, Piles, value_of};
 use jd_jml_attributes::names_of;
 use jd_jml_clauses::act as act_on_clause;
 use jd_jml_expressions::act as act_on_expression;
 use jd_jml_tokens::Lexeme;
-use jd_jml_values::{Value, clauses, turned};
+use jd_jml_values::{Value, clauses, in_order};
 use jd_syntax::SpecClause;
 use std::alloc::Global;
 
@@ -64,32 +68,42 @@ fn act(
 pub struct TreeNodes;
 
 impl<'a> Nodes<Lexeme<'a>, Value> for TreeNodes {
-    ghost count = { λ _ p. the_names p };
+    ghost count = { λ _. the_names };
 
-    ghost stands = { λ _ p ts us v. value_view v ≡ value_of_node p (map lexeme_view ts) (map value_view us) };
+    ghost stands = { λ _. IsValueAt };
+
+    fn quiet_parts(&self, production: u16) -> Option<u8>
+        ensures { IfSome result (λ n. IsQuiet the_names IsValueAt NoSuffixes production n) }
+    {
+        quiet_parts(production)
+    }
+
+    fn kept_parts(&self, production: u16, first: &Value) -> Option<u8>
+        ensures { IfSome result (λ n. IsKept the_names IsValueAt NoSuffixes production n first.now) }
+    {
+        kept_parts(production, first)
+    }
 
     fn reduce(
         &self,
         alloc: Global,
         production: u16,
         tokens: &[Lexeme<'a>],
-        stack: &mut Vec<Value>,
-    ) -> Result<(), NoMemory>
-        ensures { OnOk result ((v : Value) × (value_view v ≡ value_of_node production (map lexeme_view tokens.now) (map value_view (take (the_names production) (reverse stack.old.items)))) × (reverse stack.new.items ≡ v ∷ drop (the_names production) (reverse stack.old.items))) }
-    {
-        let parts = take_parts(stack, names_of(production), nothing());
+        piles: &mut Piles<Value>,
+    ) -> Result<(), NoMemory> {
+        let parts = piles.take_parts(names_of(production), nothing());
         let value = act(alloc, action_at(production), tokens, parts)?;
-        put(stack, value)
+        piles.add(value)
     }
 }
 
 // The clauses that a value has, in order.
-#[tactic(auto, using(jd_jml_values::proofs::Backwards::map_reverse))]
+#[tactic(auto, using(jd_lists::proofs::Backwards::map_reverse))]
 fn clauses_in(alloc: Global, value: Value) -> Vec<SpecClause>
     ensures { in_order clause_view result ≡ part.clauses_of (value_view value) }
 {
     let mut value = value;
-    turned(clauses(alloc, &mut value))
+    in_order(clauses(alloc, &mut value))
 }
 
 /// The clauses of the JML with this preorder.

@@ -7,7 +7,7 @@ use Rattle.std.proofs.lemmas.Option.{none-some, same_Some}
 use Rattle.jd_grammar.specs.Grammars.{Production, Forest, Done, Leaf, Node, yield}
 use Rattle.jd_grammar.specs.Folds.{values}
 use Rattle.jd_grammar.specs.Nodes.{all_of, filled}
-use Rattle.jd_grammar.specs.declared.fold.NodeParts.{NodeParts}
+use Rattle.jd_grammar.specs.declared.piles.NodeParts.{NodeParts}
 use Rattle.jd_grammar.specs.declared.table.Symbol.{Symbol}
 use Rattle.jd_grammar.specs.declared.table.Symbol.TheVariants.{Token, Name}
 use Rattle.jd_jml_grammar.specs.Productions.{jml_productions}

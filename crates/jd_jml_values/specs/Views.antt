@@ -1,11 +1,11 @@
 -- What the code's values show. Of a list the last part comes first in the code.
-use Rattle.std.specs.Prelude.{◌≡◌, List, map, reverse, IfOk}
+use Rattle.std.specs.Prelude.{◌≡◌, List, [], map, reverse, IfOk}
 use Rattle.std.specs.declared.result.Result.{Result}
 use Rattle.std.specs.declared.vec.Vec.{Vec}
 use Rattle.std.specs.declared.boxed.Box.{Box}
 use Rattle.std.specs.declared.alloc.Global.{Global}
 use Rattle.jd_base.specs.declared.memory.NoMemory.{NoMemory}
-use Rattle.jd_grammar.specs.declared.fold.NodeParts.{NodeParts}
+use Rattle.jd_grammar.specs.declared.piles.NodeParts.{NodeParts}
 use Rattle.jd_syntax.specs.JavaTypes.{identifier_view, written_view}
 use Rattle.jd_syntax.specs.SpecTrees.{PlainSpec, spec_view, spec_type_view, location_view, clause_view}
 use Rattle.jd_syntax.specs.declared.spec.SpecExpr.{SpecExpr}
@@ -57,6 +57,7 @@ end_view ends.AllElements = AllElementsEnd
 abbrev pub value_view : Value → PlainValue
 value_view values.Nothing = Nothing
 value_view (values.Expression e) = Expression (boxed_view e)
+value_view values.NoSuffixes = Suffixes []
 value_view (values.Suffixes ss) = Suffixes (backwards suffix_view ss)
 value_view (values.Started s ss) = Started (start_view s) (backwards suffix_view ss)
 value_view (values.ArrayOperand e) = ArrayOperand (boxed_view e)

@@ -2,12 +2,11 @@
 #![tactic(auto)]
 
 mod heads;
-mod lists;
 mod parts;
 mod values;
 
 pub use heads::{identifier_at, int_type, type_at};
-pub use lists::{appended, boxed, discard, turned, with};
+pub use jd_lists::{appended, boxed, discard, in_order, with};
 pub use parts::{
     arguments, bound_type, clauses, expression, expressions, is_dimension, locations, name, names,
     some_expression, some_name, steps, suffixes, taken, typed,

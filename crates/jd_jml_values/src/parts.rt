@@ -6,9 +6,9 @@ ghost use Rattle.jd_syntax.specs.SpecTrees.{Null, clause_view, location_view, sp
 ghost use Rattle.jd_jml_values.specs.Parts as plain;
 ghost use Rattle.jd_jml_values.specs.Views.{Gives, backwards, boxed_view, end_view, suffix_view, value_view};
 
-use crate::lists::{boxed, discard};
 use crate::values::{End, Suffix, Value};
 use jd_base::NoMemory;
+use jd_lists::{boxed, discard};
 use jd_syntax::{
     Identifier, JavaType, LocExpr, SpecClause, SpecExpr, SpecForm, SpecType, WrittenType,
 };

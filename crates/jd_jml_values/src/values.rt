@@ -1,3 +1,6 @@
+ghost use Rattle.jd_jml_values.specs.declared.values.Value.TheVariants as values;
+
+use jd_grammar::Blank;
 use jd_syntax::{
     Identifier, InfixOperator, LocExpr, Quantifier, SpecClause, SpecExpr, SpecType, WrittenType,
 };
@@ -60,6 +63,8 @@ pub enum Value {
     Nothing,
     /// An expression.
     Expression(Box<SpecExpr>),
+    /// Nothing behind an operand.
+    NoSuffixes,
     /// What stands behind an operand.
     Suffixes(Vec<Suffix>),
     /// An operand whose `(` stands before the node, and what stands behind it.
@@ -88,4 +93,12 @@ pub enum Value {
     Clauses(Vec<SpecClause>),
     /// Names.
     Names(Vec<Identifier>),
+}
+
+impl Blank for Value {
+    ghost nothing = { values.NoSuffixes };
+
+    fn nothing() -> Value {
+        Value::NoSuffixes
+    }
 }

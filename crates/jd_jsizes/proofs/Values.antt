@@ -5,7 +5,7 @@ use Rattle.std.proofs.lemmas.List.{length-append}
 use Rattle.jd_grammar.specs.Folds.{values}
 use Rattle.jd_grammar.specs.Grammars.{Forest, Done, Leaf, Node, IsForest, Production, yield}
 use Rattle.jd_grammar.specs.Nodes.{all_of, filled}
-use Rattle.jd_grammar.specs.declared.fold.NodeParts.{NodeParts}
+use Rattle.jd_grammar.specs.declared.piles.NodeParts.{NodeParts}
 use Rattle.jd_grammar.specs.declared.table.Symbol.{Symbol}
 use Rattle.jd_grammar.specs.declared.table.Symbol.TheVariants.{Token, Name}
 use Rattle.jd_java_tokens.specs.Contents.{PlainLexeme}

@@ -8,6 +8,7 @@ use crate::runs::{numeral_len, value_of, word_len};
 use crate::signs::sign_len;
 use crate::token::{LexRefusal, Token, TokenKind};
 use jd_base::copy_bytes;
+use jd_lists::put;
 use std::alloc::Global;
 
 /// The greatest `int` literal, behind a minus sign (JLS 3.10.1).
@@ -28,12 +29,15 @@ fn push(
     ensures ok { OnOk result (tokens_view out.new.items ≡ tokens_view out.old.items ++ record { kind = kind_view kind; begins = at; ends = at + n; jml = jml } ∷ []) }
     ensures err { IfErr result (λ e. e ≡ Refusal.NoMemory) }
 {
-    out.push(Token {
-        kind,
-        from: at as u32,
-        to: (at + n) as u32,
-        jml,
-    })?;
+    put(
+        out,
+        Token {
+            kind,
+            from: at as u32,
+            to: (at + n) as u32,
+            jml,
+        },
+    )?;
     Ok(())
 }
 

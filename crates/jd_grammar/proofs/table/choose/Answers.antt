@@ -3,12 +3,12 @@ use Rattle.jd_grammar.proofs.table.choose.Goals as goal
 
 pub returns : goal.returns
 returns c =
-    chosen_yes c.args.table.now c.entry_at-number.result _ c.args.name c.args.kind (record { head = 0; unless = 0; from = 0; to = 0 }) c.body.result.now c.if-number-eq0.false c.entry_at-number.ensures c.if-at-table.false c.if-rule-name.false c.if-rule-kind.false c.body.ensures
+    chosen_yes c.args.table.now c.entry_at-number.result _ c.args.name c.args.kind (0, 0, 0, 0) c.body.result.now c.if-number-eq0.false c.entry_at-number.ensures c.if-at-table.false c.if-rule-name.false c.if-rule-kind.false c.body.ensures
 
 pub returns-then-rule-name : goal.returns-then-rule-name
 returns-then-rule-name c =
-    chosen_other c.args.table.now c.entry_at-number.result _ c.args.name c.args.kind (record { head = 0; unless = 0; from = 0; to = 0 }) c.if-number-eq0.false c.entry_at-number.ensures c.if-at-table.false c.if-rule-name.true
+    chosen_other c.args.table.now c.entry_at-number.result _ c.args.name c.args.kind (0, 0, 0, 0) c.if-number-eq0.false c.entry_at-number.ensures c.if-at-table.false c.if-rule-name.true
 
 pub returns-then-rule-kind : goal.returns-then-rule-kind
 returns-then-rule-kind c =
-    chosen_kept c.args.table.now c.entry_at-number.result _ c.args.name c.args.kind (record { head = 0; unless = 0; from = 0; to = 0 }) c.if-number-eq0.false c.entry_at-number.ensures c.if-at-table.false c.if-rule-kind.true
+    chosen_kept c.args.table.now c.entry_at-number.result _ c.args.name c.args.kind (0, 0, 0, 0) c.if-number-eq0.false c.entry_at-number.ensures c.if-at-table.false c.if-rule-kind.true

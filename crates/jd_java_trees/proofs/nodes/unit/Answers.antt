@@ -1,6 +1,6 @@
 use Rattle.std.proofs.Common.{List, ap, map, ◌∙◌}
 use Rattle.jd_syntax.specs.JavaTrees.{JavaClass, JavaUnit, class_view}
-use Rattle.jd_java_values.proofs.Backwards.{map_reverse}
+use Rattle.jd_lists.proofs.Backwards.{map_reverse}
 use Rattle.jd_java_trees.proofs.nodes.unit.Goals as goal
 
 pub returns : goal.returns

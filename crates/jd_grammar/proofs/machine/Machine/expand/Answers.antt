@@ -30,7 +30,7 @@ loop-name-preserved c = λ s start done passed l.
     let t = plain c.args.table.now in
     let was = subst (Leads s t start (Some c.args.kind) done c.loop-name.self.order.items) (before c) (c.loop-name.invariant s start done passed l) in
     let is = used s t start c.args.kind done c.loop-name.self.order.items c.in-Some-Name.name c.in-Some.number c.in-Some.body.now (reverse c.pop.new.self.items) passed (sym c.in-Some.ensures) was in
-    subst (λ xs. Leads s t start (Some c.args.kind) done xs (reverse c.push_all.new.stack.items)) (sym c.in_ok-add.ensures)
+    subst (λ xs. Leads s t start (Some c.args.kind) done xs (reverse c.push_all.new.stack.items)) (sym c.in_ok-put.ensures)
     (subst (Leads s t start (Some c.args.kind) done (c.loop-name.self.order.items ++ c.in-Some.number ∷ [])) (sym (after c)) is)
 
 pub returns-in_default-choose : goal.returns-in_default-choose

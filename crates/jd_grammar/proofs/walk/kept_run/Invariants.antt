@@ -1,0 +1,13 @@
+use Rattle.std.proofs.Common.{◌≤◌, ◌∷◌, ◌++◌, List, length, replicate}
+use Rattle.jd_grammar.specs.Counted.{IsWalked}
+use Rattle.jd_grammar.proofs.walk.kept_run.Given as goal
+
+-- what was passed were nodes that stand for their first part
+abbrev pub invariant-loop-left : goal.invariant-loop-left
+invariant-loop-left g l = record {
+  fewer : l.left ≤ l.fn.from.left;
+  walked : (ts : List g.row.T.Denot) (rest : List g.row.V.Denot) → IsWalked (g.N.Nodes.count l.nodes) (g.N.Nodes.stands l.nodes) l.order ts l.fn.from.left l.fn.from.at (l.first ∷ (replicate l.fn.from.nothing g.V.Blank.nothing ++ rest)) → IsWalked (g.N.Nodes.count l.nodes) (g.N.Nodes.stands l.nodes) l.order ts l.left l.fn.from.at (l.first ∷ (replicate l.nothing g.V.Blank.nothing ++ rest));
+}
+
+abbrev pub decreases-loop-left : goal.decreases-loop-left
+decreases-loop-left g l = l.left
