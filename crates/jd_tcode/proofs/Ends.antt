@@ -5,7 +5,7 @@ use Rattle.jd_syntax.specs.declared.sx.Sx.{Sx}
 use Rattle.jd_syntax.specs.Sxs.{bracketed_list, sx_view}
 use Rattle.jd_tgrammar.specs.NameTables.{NameTable}
 use Rattle.jd_tforms.specs.Reading.{Read, with_none, with_one, with_two, behind_one, behind_two, reads}
-use Rattle.jd_tread.specs.Behind.{rest_of}
+use Rattle.jd_tcode.specs.Behind.{rest_of}
 use Rattle.jd_tcode.specs.Pairing.{Gives}
 
 -- ---- fewer than a call has

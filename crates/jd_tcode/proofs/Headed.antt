@@ -8,8 +8,8 @@ use Rattle.jd_tforms.specs.declared.heads.ExprHead.{ExprHead}
 use Rattle.jd_tforms.specs.declared.heads.StmtHead.{StmtHead}
 use Rattle.jd_tforms.specs.Heads.{expr_heads, expr_word, head_of, stmt_heads, stmt_word}
 use Rattle.jd_tforms.specs.Reading.{Read, behind, expr_of, read, reads, stmt_of}
-use Rattle.jd_tread.specs.Behind.{first_word, rest_of}
-use Rattle.jd_tread.proofs.Counts.{headed}
+use Rattle.jd_tcode.specs.Behind.{first_word, rest_of}
+use Rattle.jd_tcode.proofs.Counts.{headed}
 use Rattle.jd_tcode.specs.Pairing.{Gives}
 
 -- from parts that are looked at twice

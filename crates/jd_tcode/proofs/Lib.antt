@@ -1,5 +1,9 @@
+pub mod Among
+pub mod ByHead
+pub mod Counts
 pub mod Ends
 pub mod Falling
 pub mod Growing
 pub mod Headed
+pub mod Parted
 pub mod Placed

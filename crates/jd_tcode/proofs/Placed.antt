@@ -7,7 +7,7 @@ use Rattle.jd_syntax.specs.Codes.{Expr}
 use Rattle.jd_syntax.specs.Sxs.{bracketed_list, sx_view}
 use Rattle.jd_tgrammar.specs.NameTables.{NameTable}
 use Rattle.jd_tforms.specs.Reading.{Read, array_of, read, reads}
-use Rattle.jd_tread.specs.Behind.{rest_of}
+use Rattle.jd_tcode.specs.Behind.{rest_of}
 use Rattle.jd_tcode.specs.Pairing.{Gives}
 
 -- the parts of an expression

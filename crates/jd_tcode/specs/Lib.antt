@@ -1,2 +1,3 @@
+pub mod Behind
 pub mod Pairing
 pub mod Words

@@ -1,4 +1,4 @@
--- Several values that may be absent.
+-- Parts that may be absent, and several of them.
 use Rattle.std.specs.Prelude.{◌≡◌, ◌⊎◌, Option, Some, None, option_map, Result, Ok, IfOk}
 
 -- both, where there are both
@@ -10,6 +10,11 @@ ArePaired a b (Some p) = (a ≡ Ok (Some p.0)) × (b ≡ Ok (Some p.1))
 abbrev pub AreThree : {A B C E : Type 0} → Result (Option A) E → Result (Option B) E → Result (Option C) E → Option (A × B × C) → Type 0
 AreThree a b c None = (a ≡ Ok None) ⊎ ((b ≡ Ok None) ⊎ (c ≡ Ok None))
 AreThree a b c (Some p) = (a ≡ Ok (Some p.0)) × (b ≡ Ok (Some p.1)) × (c ≡ Ok (Some p.2))
+
+-- and all four
+abbrev pub AreFour : {A B C D E : Type 0} → Result (Option A) E → Result (Option B) E → Result (Option C) E → Result (Option D) E → Option (A × B × C × D) → Type 0
+AreFour a b c d None = (a ≡ Ok None) ⊎ ((b ≡ Ok None) ⊎ ((c ≡ Ok None) ⊎ (d ≡ Ok None)))
+AreFour a b c d (Some p) = (a ≡ Ok (Some p.0)) × (b ≡ Ok (Some p.1)) × (c ≡ Ok (Some p.2)) × (d ≡ Ok (Some p.3))
 
 -- what was read of a part is the tree that it is, or nothing where it is none
 abbrev pub Gives : {A X E : Type 0} → (A → X) → Result (Option A) E → Option X → Type 0

@@ -5,14 +5,15 @@ ghost use Rattle.jd_syntax.specs.CodeViews.{expr_view};
 ghost use Rattle.jd_syntax.specs.Codes.{exprs_of};
 ghost use Rattle.jd_syntax.specs.Sxs.{bracketed_list, sx_view};
 ghost use Rattle.jd_tforms.specs.Reading as plain;
-ghost use Rattle.jd_tread.specs.Behind.{rest_of};
+ghost use Rattle.jd_tcode.specs.Behind.{rest_of};
 
 use crate::made_exprs::{
     make_and, make_binary, make_call, make_cast, make_conditional, make_constructor, make_do,
     make_element, make_field, make_instance, make_length, make_or, make_static, make_unary,
 };
+use crate::reader::first_word;
 use crate::stmts::read_code;
-use crate::words::{constructor_in, field_in, first_word, kind_in, method_in, static_in};
+use crate::words::{constructor_in, field_in, kind_in, method_in, static_in};
 use jd_base::NoMemory;
 use jd_syntax::{CodeExpr, Sx};
 use jd_tforms::ExprHead;
@@ -40,7 +41,7 @@ fn read_operands<N: NameMeanings>(
 
 // What stands behind the head of an expression.
 #[cycle(read_code)]
-#[tactic(auto, using(jd_tread::proofs::Counts::counts, crate::proofs::Ends::short))]
+#[tactic(auto, using(crate::proofs::Counts::counts, crate::proofs::Ends::short))]
 fn expr_behind<N: NameMeanings>(
     alloc: Global,
     names: &N,

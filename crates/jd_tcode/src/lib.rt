@@ -4,11 +4,13 @@
 mod exprs;
 mod made_exprs;
 mod made_stmts;
-mod pairs;
+mod parts;
+mod reader;
 mod stmts;
 mod words;
 
 pub use exprs::read_expr;
-pub use pairs::{both_there, three_there};
+pub use parts::{Part, both_there, four_there, three_there};
+pub use reader::{Reader, first_word, under};
 pub use stmts::{read_code, read_stmt};
-pub use words::{first_word, kind_in, variable_in};
+pub use words::{kind_in, variable_in};

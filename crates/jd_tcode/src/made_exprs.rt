@@ -8,7 +8,7 @@ ghost use Rattle.jd_tforms.specs.Reading as plain;
 ghost use Rattle.jd_tcode.specs.Pairing.{Gives};
 ghost use Rattle.jd_tcode.specs.Words.{seen_call, seen_view};
 
-use crate::pairs::{Part, both_there, three_there};
+use crate::parts::{Part, both_there, three_there};
 use jd_base::{ClassId, FieldId, MethodId, NoMemory};
 use jd_syntax::{BinaryOp, Code, CodeExpr, Kind, UnaryOp};
 use std::alloc::Global;

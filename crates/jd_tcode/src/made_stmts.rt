@@ -9,7 +9,7 @@ ghost use Rattle.jd_syntax.specs.Names.{Name, var_view};
 ghost use Rattle.jd_tforms.specs.Reading as plain;
 ghost use Rattle.jd_tcode.specs.Pairing.{Gives};
 
-use crate::pairs::{Part, both_there, three_there};
+use crate::parts::{Part, both_there, three_there};
 use jd_base::{ClassId, FieldId};
 use jd_syntax::{Code, CodeExpr, CodeStmt, VarId};
 

@@ -5,7 +5,7 @@ ghost use Rattle.jd_syntax.specs.CodeViews.{code_view, expr_view, stmt_view};
 ghost use Rattle.jd_syntax.specs.Codes.{stmts_of};
 ghost use Rattle.jd_syntax.specs.Sxs.{bracketed_list, sx_view};
 ghost use Rattle.jd_tforms.specs.Reading as plain;
-ghost use Rattle.jd_tread.specs.Behind.{rest_of};
+ghost use Rattle.jd_tcode.specs.Behind.{rest_of};
 
 use crate::exprs::read_expr;
 use crate::made_stmts::{
@@ -13,9 +13,8 @@ use crate::made_stmts::{
     make_if, make_new_array, make_put, make_put_element, make_raise, make_return, make_return_void,
     make_set, make_stop, make_throw, make_throw_unchecked, make_while,
 };
-use crate::words::{
-    class_in, field_in, first_word, label_in, loop_in, result_in, variable_in, word_in,
-};
+use crate::reader::first_word;
+use crate::words::{class_in, field_in, label_in, loop_in, result_in, variable_in, word_in};
 use jd_base::NoMemory;
 use jd_syntax::{Code, CodeExpr, CodeStmt, Sx};
 use jd_tforms::StmtHead;
@@ -65,7 +64,7 @@ fn read_array<N: NameMeanings>(
 
 // What stands behind the head of a statement.
 #[cycle(read_code)]
-#[tactic(auto, using(jd_tread::proofs::Counts::counts, crate::proofs::Ends::ends))]
+#[tactic(auto, using(crate::proofs::Counts::counts, crate::proofs::Ends::ends))]
 fn stmt_behind<N: NameMeanings>(
     alloc: Global,
     names: &N,

@@ -1,33 +1,19 @@
 //! What a part of one word stands for.
 
-ghost use Rattle.std.specs.Prelude.{◌≡◌, IfOk, map, option_map};
+ghost use Rattle.std.specs.Prelude.{◌≡◌, IfOk, option_map};
 ghost use Rattle.jd_syntax.specs.CodeViews.{kind_view};
 ghost use Rattle.jd_syntax.specs.Names.{var_view};
-ghost use Rattle.jd_syntax.specs.Sxs.{bracketed_list, sx_view};
+ghost use Rattle.jd_syntax.specs.Sxs.{sx_view};
 ghost use Rattle.jd_tgrammar.specs.NameTables.{NameTable};
 ghost use Rattle.jd_tforms.specs.Naming as naming;
 ghost use Rattle.jd_tforms.specs.Reading as plain;
 ghost use Rattle.jd_tforms.specs.Shapes as shapes;
-ghost use Rattle.jd_tread.specs.Behind as behind;
 ghost use Rattle.jd_tcode.specs.Words.{seen_view};
 
 use jd_base::{ClassId, FieldId, MethodId, NoMemory};
 use jd_syntax::{Kind, Sx, VarId};
 use jd_twords::{NameMeanings, is_word, label_of, loop_of};
 use std::alloc::Global;
-
-/// The word that stands first in brackets.
-pub fn first_word(parts: &[Sx]) -> Option<&[u8]>
-    ensures { option_map (λ w. w.now) result ≡ behind.first_word (bracketed_list (map sx_view parts.now)) }
-{
-    match parts {
-        [] => None,
-        [first, ..] => match first {
-            Sx::Atom(word) => Some(word.as_slice()),
-            Sx::List(_) => None,
-        },
-    }
-}
 
 // The word that it is.
 pub(crate) fn word_in(x: &Sx) -> Option<&[u8]>

@@ -13,8 +13,7 @@ use crate::names::Names;
 use jd_base::Sort;
 use jd_syntax::Sx;
 use jd_term::{Formula, Term};
-use jd_tformula::answer_formula;
-use jd_tread::{TermRefusal, answer_term};
+use jd_tread::{TermRefusal, answer_formula, answer_term};
 use std::alloc::Global;
 
 /// The closed formula that the expression is, exactly as the grammar spells it with these names.

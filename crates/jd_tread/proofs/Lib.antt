@@ -1,2 +1,4 @@
-pub mod Counts
 pub mod Deciding
+pub mod MadeFormulas
+pub mod MadeTerms
+pub mod Many

@@ -1,2 +1,3 @@
-pub mod Behind
 pub mod Faults
+pub mod FormulaMakers
+pub mod TermMakers

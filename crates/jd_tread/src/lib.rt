@@ -1,12 +1,14 @@
-//! Terms and location sets, read from bracketed expressions, over whatever names stand for.
+//! Terms, location sets and formulas, read from bracketed expressions, over whatever names stand for.
 #![tactic(auto)]
 
 mod answer;
+mod formulas;
+mod made_formulas;
+mod made_terms;
 mod refusal;
-mod sorted;
 mod terms;
+mod updates;
 
-pub use answer::answer_term;
+pub use answer::{answer_formula, answer_term};
+pub use formulas::read_formula;
 pub use refusal::TermRefusal;
-pub use sorted::{has_sort, is_sorted, is_sorted_loc, same_sort};
-pub use terms::{first_word, read_loc, read_term, under};

@@ -13,9 +13,9 @@ use crate::returns::{Returns, may_return, may_return_nothing, may_take, returns_
 use crate::sorts::{
     binary_sort, both_one_sort, is_of_integers, is_some_sort, is_value, unary_sort,
 };
+use crate::terms::same_sort;
 use jd_base::{MethodId, Sort};
 use jd_syntax::{BinaryOp, Code, CodeExpr, CodeStmt};
-use jd_tread::same_sort;
 
 /// The sort of the expression's value; none where it has no value.
 pub fn expr_sort<N: NameSorts>(names: &N, expr: &CodeExpr) -> Option<Sort>

@@ -7,9 +7,9 @@ ghost use Rattle.jd_tforms.specs.Sorted as plain;
 use crate::code::is_sorted_code;
 use crate::names::NameSorts;
 use crate::returns::Returns;
+use crate::terms::{has_sort, is_sorted, is_sorted_loc, same_sort};
 use jd_base::Sort;
 use jd_term::{Elementary, Formula, sort_of};
-use jd_tread::{has_sort, is_sorted, is_sorted_loc, same_sort};
 
 // Whether the right side of a pair has the sort of the variable on the left.
 fn is_sorted_pair(pair: &Elementary) -> bool

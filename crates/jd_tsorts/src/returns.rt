@@ -4,9 +4,9 @@ ghost use Rattle.jd_tforms.specs.Sorted as plain;
 ghost use Rattle.jd_tsorts.specs.Returned.{returns_view};
 
 use crate::sorts::is_value;
+use crate::terms::same_sort;
 use jd_base::Sort;
 use jd_syntax::VarId;
-use jd_tread::same_sort;
 
 /// What a `return` has to give, by the innermost frame around it.
 #[derive(Clone, Copy)]

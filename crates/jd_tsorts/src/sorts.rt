@@ -3,9 +3,9 @@
 ghost use Rattle.std.specs.Prelude.{◌≡◌};
 ghost use Rattle.jd_tforms.specs.Sorted as plain;
 
+use crate::terms::same_sort;
 use jd_base::Sort;
 use jd_syntax::{BinaryOp, UnaryOp};
-use jd_tread::same_sort;
 
 // Whether it is the sort of a value of Java.
 pub(crate) fn is_value(sort: Sort) -> bool

@@ -7,8 +7,8 @@ use jd_model::Sequent;
 use jd_sequent::is_within_limits;
 use jd_syntax::Sx;
 use jd_term::Formula;
-use jd_tformula::read_formula;
 use jd_tparse::Names;
+use jd_tread::read_formula;
 use row_text::{Answer, unescaped};
 use std::alloc::Global;
 

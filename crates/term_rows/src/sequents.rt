@@ -9,8 +9,8 @@ use jd_print::print_term;
 use jd_sequent_print::print_sequent;
 use jd_syntax::Sx;
 use jd_term::Formula;
-use jd_tformula::read_formula;
 use jd_tparse::Names;
+use jd_tread::read_formula;
 use row_text::{Answer, first_word};
 use std::alloc::Global;
 

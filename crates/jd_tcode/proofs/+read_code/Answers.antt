@@ -3,7 +3,7 @@ use Rattle.jd_syntax.specs.CodeViews.{expr_view, stmt_view}
 use Rattle.jd_syntax.specs.Sxs.{sx_view}
 use Rattle.jd_syntax.proofs.SxLemmas.{list_of}
 use Rattle.jd_tforms.specs.Reading.{expr_of, stmt_of}
-use Rattle.jd_tread.specs.Behind.{rest_of}
+use Rattle.jd_tcode.specs.Behind.{rest_of}
 use Rattle.jd_tcode.proofs.Ends.{nothing_behind, nothing_returned, or_none}
 use Rattle.jd_tcode.proofs.Falling.{rest_falls, rest_taken}
 use Rattle.jd_tcode.proofs.Growing.{operands_done, operands_more, statements_done, statements_more}

@@ -1,5 +1,5 @@
-use Rattle.jd_tformula.proofs.Many.{pairs_grow}
-use Rattle.jd_tformula.proofs.updates.read_pairs.Goals as goal
+use Rattle.jd_tread.proofs.Many.{pairs_grow}
+use Rattle.jd_tread.proofs.updates.read_pairs.Goals as goal
 
 pub loop-part-preserved : goal.loop-part-preserved
 loop-part-preserved g c =

@@ -1,6 +1,6 @@
 -- Pairs that are read one by one.
-use Rattle.std.proofs.Common.{◌≡◌, ◌≢◌, ℕ, ◌+◌, ◌<◌, List, [], ◌∷◌, ◌++◌, length, map, drop, get_or, Vec, Global, Option, Some, None, option_map, refl, sym, ap, ◌∙◌, append_assoc, arith}
-use Rattle.std.proofs.lemmas.List.{drop_more, map-append}
+use Rattle.std.proofs.Common.{◌≡◌, ℕ, ◌+◌, ◌<◌, List, [], ◌∷◌, ◌++◌, length, map, get_or, Vec, Global, Option, Some, None, option_map, refl, sym, ap, ◌∙◌, append_assoc, arith}
+use Rattle.std.proofs.lemmas.List.{map-append}
 use Rattle.jd_base.specs.declared.sort.Sort.{Sort}
 use Rattle.jd_syntax.specs.declared.sx.Sx.{Sx}
 use Rattle.jd_syntax.specs.Names.{Name}
@@ -9,15 +9,8 @@ use Rattle.jd_term.specs.Terms.{PlainTerm}
 use Rattle.jd_term.specs.declared.formula.Elementary.{Elementary}
 use Rattle.jd_term.specs.Formulas.{Pairs, pair_view}
 use Rattle.jd_tgrammar.specs.NameTables.{NameTable}
-use Rattle.jd_tforms.specs.Reading.{Read, both, with_two, read, reads, all_pairs, pairs_of}
-
--- the parts from that number on
-abbrev rest : NameTable → List Sx → ℕ → List Read
-rest names xs i = reads names (bracketed_list (map sx_view (drop i xs)))
-
-rest_more : (names : NameTable) (xs : List Sx) (i : ℕ) (x : Sx) → i < length xs → x ≡ get_or xs i x → rest names xs i ≡ read names (sx_view x) ∷ rest names xs (i + 1)
-rest_more names xs i x lt is =
-    ap (λ (l : List Sx). reads names (bracketed_list (map sx_view l))) (drop_more xs i x lt ∙ ap (λ y. y ∷ drop (i + 1) xs) (sym is))
+use Rattle.jd_tforms.specs.Reading.{Read, both, read, reads, all_pairs, pairs_of}
+use Rattle.jd_tcode.proofs.Growing.{rest, rest_more}
 
 -- what is read so far, and what the rest is
 abbrev pub pairs_from : NameTable → List Sort → List Sx → ℕ → Pairs → Option Pairs
@@ -50,12 +43,3 @@ pairs_grow names ctx xs i ds es x o e left lt is told some items =
     left
     ∙ (pairs_step names ctx xs i (map pair_view ds) x (pair_view e) lt is (sym (ap (option_map pair_view) some) ∙ told)
     ∙ ap (pairs_from names ctx xs (i + 1)) (sym (map-append pair_view ds (e ∷ [])) ∙ sym (ap (map pair_view) items)))
-
--- a pair has two parts
-pub no_two_parts : {T : Type 0} (names : NameTable) (f : Read → Read → Option T) (xs : List Sx) → length xs ≢ 2 → None ≡ with_two f (reads names (bracketed_list (map sx_view xs)))
-no_two_parts names f [] n = refl
-no_two_parts names f (a ∷ []) n = refl
-no_two_parts names f (a ∷ b ∷ []) n = absurd (n refl)
-no_two_parts names f (a ∷ b ∷ c ∷ xs) n = refl
-
-pub ruleset not_two = no_two_parts

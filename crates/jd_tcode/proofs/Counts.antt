@@ -1,14 +1,11 @@
 -- Another number of parts than a form has.
-use Rattle.std.proofs.Common.{◌≡◌, ◌≢◌, ℕ, List, [], ◌∷◌, length, map, Option, Some, None, refl, sym, ap, ◌∙◌}
+use Rattle.std.proofs.Common.{◌≡◌, ◌≢◌, ℕ, List, [], ◌∷◌, length, map, Option, Some, None, refl, ap}
 use Rattle.jd_syntax.specs.declared.sx.Sx.{Sx}
-use Rattle.jd_base.specs.declared.sort.Sort.{Sort}
-use Rattle.jd_syntax.specs.Sxs.{Bracketed, BracketedList, Atom, Brackets, NoneBracketed, BracketedThen, bracketed_list, sx_view}
+use Rattle.jd_syntax.specs.Sxs.{BracketedList, Atom, Brackets, NoneBracketed, BracketedThen, bracketed_list, sx_view}
 use Rattle.jd_tgrammar.specs.NameTables.{NameTable}
-use Rattle.jd_term.specs.Terms.{PlainTerm}
-use Rattle.jd_tforms.specs.declared.heads.TermHead.{TermHead}
-use Rattle.jd_tforms.specs.Heads.{head_of, term_word, term_heads}
-use Rattle.jd_tforms.specs.Reading.{Read, with_one, with_two, with_three, with_four, behind, term_of, read, reads}
-use Rattle.jd_tread.specs.Behind.{first_word, rest_of}
+use Rattle.jd_tforms.specs.Heads.{head_of}
+use Rattle.jd_tforms.specs.Reading.{Read, with_one, with_two, with_three, with_four, behind, reads}
+use Rattle.jd_tcode.specs.Behind.{first_word, rest_of}
 
 abbrev of : NameTable → List Sx → List Read
 of names xs = rest_of (reads names (bracketed_list (map sx_view xs)))
@@ -58,16 +55,3 @@ pub headed : {H T : Type 0} (names : NameTable) (word : H → List ℕ) (hs : Li
 headed names word hs go NoneBracketed w e = absurd cc
 headed names word hs go (BracketedThen (Atom v) xs) w e = let same : v ≡ w = cc in ap (λ u. go (head_of word hs u) (reads names xs)) same
 headed names word hs go (BracketedThen (Brackets ys) xs) w e = absurd cc
-
--- a term by its head, from parts that are looked at twice
-pub term_headed : (names : NameTable) (ctx : List Sort) (x : Bracketed) (first again parts : List Sx) (w : List ℕ) (head : TermHead) (t : Option PlainTerm) →
-    x ≡ Brackets (bracketed_list (map sx_view parts)) → first ≡ parts → again ≡ parts →
-    Some w ≡ first_word (bracketed_list (map sx_view first)) → Some head ≡ head_of term_word term_heads w →
-    t ≡ term_of names ctx (Some head) (rest_of (reads names (bracketed_list (map sx_view again)))) → t ≡ (read names x).term ctx
-term_headed names ctx x first again parts w head t is same this begins found e =
-    let all = bracketed_list (map sx_view parts) in
-    let begins_all : first_word all ≡ Some w = sym (begins ∙ ap (λ (l : List Sx). first_word (bracketed_list (map sx_view l))) same) in
-    e ∙ (ap (λ (l : List Sx). term_of names ctx (Some head) (rest_of (reads names (bracketed_list (map sx_view l))))) this
-    ∙ (ap (λ h. term_of names ctx h (rest_of (reads names all))) found
-    ∙ (sym (headed names term_word term_heads (term_of names ctx) all w begins_all)
-    ∙ ap (λ y. (read names y).term ctx) (sym is))))

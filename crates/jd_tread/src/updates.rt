@@ -5,16 +5,16 @@ ghost use Rattle.jd_syntax.specs.Sxs.{bracketed_list, sx_view};
 ghost use Rattle.jd_term.specs.Formulas.{pair_view, update_view};
 ghost use Rattle.jd_tforms.specs.Reading as plain;
 
+use crate::terms::read_term;
 use jd_base::{NoMemory, Sort};
 use jd_syntax::Sx;
-use jd_tcode::{both_there, variable_in};
+use jd_tcode::{Part, Reader, both_there, variable_in};
 use jd_term::{Elementary, Update};
-use jd_tread::read_term;
 use jd_twords::NameMeanings;
 use std::alloc::Global;
 
 // A variable and a term, in brackets.
-#[tactic(auto, using(crate::proofs::Many::not_two))]
+#[tactic(auto, using(jd_tcode::proofs::Ends::not_two))]
 fn pair_behind<N: NameMeanings>(
     alloc: Global,
     names: &N,
@@ -29,10 +29,12 @@ fn pair_behind<N: NameMeanings>(
     let [variable, value] = parts else {
         return Ok(None)
     };
-    match both_there(
-        variable_in(alloc, names, variable),
-        read_term(alloc, names, binders, value),
-    )? {
+    let at = Reader {
+        alloc,
+        names,
+        binders,
+    };
+    match both_there(variable_in(alloc, names, variable), read_term(&at, value))? {
         None => Ok(None),
         Some((variable, value)) => Ok(Some(Elementary { variable, value })),
     }
@@ -91,16 +93,11 @@ fn pairs_behind<N: NameMeanings>(
 }
 
 // An update.
-pub(crate) fn read_update<N: NameMeanings>(
-    alloc: Global,
-    names: &N,
-    binders: &[Sort],
-    x: &Sx,
-) -> Result<Option<Update>, NoMemory>
-    ensures { IfOk result (λ o. option_map update_view o ≡ (plain.read (N.table names.now) (sx_view x.now)).pairs binders.now) }
+pub(crate) fn read_update<N: NameMeanings>(at: &Reader<'_, N>, x: &Sx) -> Part<Update>
+    ensures { IfOk result (λ o. option_map update_view o ≡ (plain.read (N.table at.now.names.now) (sx_view x.now)).pairs at.now.binders.now) }
 {
     match x {
         Sx::Atom(_) => Ok(None),
-        Sx::List(parts) => pairs_behind(alloc, names, binders, parts),
+        Sx::List(parts) => pairs_behind(at.alloc, at.names, at.binders, parts),
     }
 }

@@ -1,6 +1,6 @@
 use Rattle.std.proofs.Common.{arith}
-use Rattle.jd_tformula.proofs.Many.{some_pairs}
-use Rattle.jd_tformula.proofs.updates.pairs_behind.Goals as goal
+use Rattle.jd_tread.proofs.Many.{some_pairs}
+use Rattle.jd_tread.proofs.updates.pairs_behind.Goals as goal
 
 pub returns-in-Some : goal.returns-in-Some
 returns-in-Some g c =

@@ -2,8 +2,8 @@ use Rattle.std.proofs.Common.{◌≡◌, map}
 use Rattle.jd_syntax.specs.Sxs.{bracketed_list, sx_view}
 use Rattle.jd_term.specs.Formulas.{pair_view}
 use Rattle.jd_tforms.specs.Reading.{all_pairs, reads}
-use Rattle.jd_tformula.proofs.Many.{pairs_from}
-use Rattle.jd_tformula.proofs.updates.read_pairs.Given as goal
+use Rattle.jd_tread.proofs.Many.{pairs_from}
+use Rattle.jd_tread.proofs.updates.read_pairs.Given as goal
 
 -- what is read so far, and what the rest adds
 abbrev pub invariant-loop-part : goal.invariant-loop-part
