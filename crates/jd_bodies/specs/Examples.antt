@@ -3,11 +3,11 @@
 --     class A { int f; A n; static final int K = 7; A(int x) {} int m(int x) {..} static int s(int x) {..} void v() {} }
 --     class B extends A { boolean b; B() { super(1); } }
 --     class C extends B { }
-use Rattle.std.specs.Prelude.{◌≡◌, ℕ, pos, negsuc, Bool, true, false, List, [], ◌∷◌, ◌||◌, ◌&&◌, nat_eq, nat_le, nat_lt, if◌then◌else◌, Option, Some, None, Ok, Err, codes}
+use Rattle.std.specs.Prelude.{◌≡◌, ℕ, pos, negsuc, Bool, true, false, List, [], ◌∷◌, ◌||◌, ◌&&◌, nat_eq, nat_le, nat_lt, if◌then◌else◌, Option, Some, None, Result, Ok, Err, codes}
 use Rattle.std.specs.Str.{bytes_eq}
 use Rattle.jd_base.specs.declared.sort.Sort.TheVariants as sorts
-use Rattle.jd_syntax.specs.JavaTypes.{PlainIdentifier, PlainType, PlainWritten, IntType, IntArrayType, NamedType}
-use Rattle.jd_syntax.specs.JavaTrees.{JavaExpr, Integer, Boolean, Null, This, Name, Field, Parenthesized, Call, MethodCall, New, NewArray, Index, Prefix, Postfix, Cast, Infix, InstanceOf, Conditional, Assign, NoExprs, ExprThen, JavaDeclarator, Declared, Evaluated, Block, Empty, Local as Declaration, Evaluate, Label, If, IfElse, While, For, Break, Continue, Return, Throw, Try, TryFinally, JavaStmts, NoStmts, StmtThen, Catch, NoHandlers, HandlerThen}
+use Rattle.jd_syntax.specs.JavaTypes.{PlainIdentifier, PlainType, PlainWritten, IntType, BooleanType, IntArrayType, NamedType}
+use Rattle.jd_syntax.specs.JavaTrees.{JavaExpr, Integer, Boolean, Null, This, Name, Field, Parenthesized, Call, MethodCall, New, NewArray, Index, Prefix, Postfix, Cast, Infix, InstanceOf, Conditional, Assign, NoExprs, ExprThen, JavaDeclarator, Declared, Evaluated, Block, Empty, Local as Declaration, Evaluate, Label, If, IfElse, While, For, Break, Continue, Return, Throw, Try, TryFinally, Super, JavaStmts, NoStmts, StmtThen, Catch, NoHandlers, HandlerThen}
 use Rattle.jd_syntax.specs.declared.java.InfixOperator.TheVariants as operators
 use Rattle.jd_syntax.specs.declared.java.PrefixOperator.TheVariants as prefixes
 use Rattle.jd_syntax.specs.declared.java.CountOperator.TheVariants as counts
@@ -17,16 +17,17 @@ use Rattle.jd_syntax.specs.declared.code.BinaryOp.TheVariants as binary
 use Rattle.jd_syntax.specs.Codes as code
 use Rattle.jd_syntax.specs.Codes.{OfClass, IntArray, PlainCode, Done, Then}
 use Rattle.jd_syntax.specs.Names as variables
+use Rattle.jd_bodies.specs.declared.fault.Fault.{Fault}
 use Rattle.jd_bodies.specs.declared.fault.Cause.{Cause}
 use Rattle.jd_bodies.specs.declared.fault.Cause.TheVariants.{UnknownName, UnknownClass, UnknownMethod, TypeMismatch, WrongArity, BadTarget, BadLabel, Redeclared}
 use Rattle.jd_bodies.specs.declared.value.ValueType.TheVariants as types
-use Rattle.jd_bodies.specs.Bodies.{block_lines, no_exits, begun, code_in}
+use Rattle.jd_bodies.specs.Bodies.{Lines, block_lines, no_exits, begun, code_in}
 use Rattle.jd_bodies.specs.declared.place.Place.{Place}
 use Rattle.jd_bodies.specs.declared.place.Returns.TheVariants.{Value}
 use Rattle.jd_bodies.specs.declared.value.Variable.TheVariants as members
 use Rattle.jd_bodies.specs.Declarations.{Declarations}
-use Rattle.jd_bodies.specs.Scopes.{Local}
-use Rattle.jd_bodies.specs.Statements.{nothing_around, stmts}
+use Rattle.jd_bodies.specs.Scopes.{Local, Scope}
+use Rattle.jd_bodies.specs.Statements.{stmts}
 use Rattle.jd_bodies.specs.Variables.{Progress, with_local}
 
 -- ---- the program
@@ -70,6 +71,9 @@ locals =
     ∷ record { name = codes "x"; type = types.Int }
     ∷ []
 
+abbrev pub scope : Scope
+scope = record { locals = locals; labels = []; in_loop = false }
+
 abbrev pub place : Bool → Place
 place static = record { class = 11; is_static = static }
 
@@ -84,11 +88,11 @@ StandFor ss c = code_in (block_lines declarations (place false) ss no_exits loca
 
 -- this token is refused first, in a method that is static or not
 abbrev pub IsRefused : Bool → JavaStmts → ℕ → Cause → Type 0
-IsRefused static ss at cause = stmts declarations (place static) (Value types.Int) ss nothing_around locals ≡ Err (record { at = at; cause = cause })
+IsRefused static ss at cause = stmts declarations (place static) (Value types.Int) ss scope ≡ Err (record { at = at; cause = cause })
 
 -- none is, and these locals are in scope behind them
 abbrev pub IsTaken : Bool → JavaStmts → List Local → Type 0
-IsTaken static ss ls = stmts declarations (place static) (Value types.Int) ss nothing_around locals ≡ Ok ls
+IsTaken static ss ls = stmts declarations (place static) (Value types.Int) ss scope ≡ Ok (record scope { locals = ls })
 
 -- ---- parts of trees
 

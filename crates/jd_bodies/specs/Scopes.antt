@@ -1,5 +1,5 @@
 -- What a name in a body stands for (JLS 6.3, 6.4.1, 6.5).
-use Rattle.std.specs.Prelude.{ℕ, List, [], ◌∷◌, if◌then◌else◌, Option, Some, None}
+use Rattle.std.specs.Prelude.{ℕ, Bool, false, List, [], ◌∷◌, if◌then◌else◌, Option, Some, None}
 use Rattle.std.specs.Str.{bytes_eq}
 use Rattle.jd_bodies.specs.Declarations.{Declarations}
 use Rattle.jd_bodies.specs.declared.place.Meaning.{Meaning}
@@ -13,6 +13,16 @@ use Rattle.jd_bodies.specs.declared.value.Variable.TheVariants as variables
 pub record Local : Type 0 where
   pub name : List ℕ
   pub type : ValueType
+
+-- what is in scope in a body: the locals, the newest first; the labels around it, the innermost last, each with whether it is a loop's; and
+-- whether a loop stands around
+pub record Scope : Type 0 where
+  pub locals : List Local
+  pub labels : List (List ℕ × Bool)
+  pub in_loop : Bool
+
+abbrev pub empty_scope : Scope
+empty_scope = record { locals = []; labels = []; in_loop = false }
 
 -- the last of the name
 abbrev pub local_named : List Local → List ℕ → Option ValueType

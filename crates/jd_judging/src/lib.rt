@@ -1,10 +1,12 @@
-//! Which token of a body of Java is refused first.
+//! Which token of an expression of Java is refused first.
 #![tactic(auto)]
 
-mod declares;
 mod expressions;
 mod operators;
 mod rules;
 
-pub use declares::{Declares, Locals, Signature};
-pub use expressions::judged;
+pub use expressions::{arguments, judged};
+pub use operators::{
+    above_parameters, creation_fits, or_nothing, type_by, wanted, written_class, written_type,
+};
+pub use rules::{fault, value_of, valued};

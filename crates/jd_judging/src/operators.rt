@@ -4,16 +4,17 @@ ghost use Rattle.std.specs.Prelude.{◌≡◌};
 ghost use Rattle.std.specs.Option.{option_copied};
 ghost use Rattle.jd_bodies.specs.Expressions as plain;
 ghost use Rattle.jd_bodies.specs.Judgements.{and_then};
+ghost use Rattle.jd_bodies.specs.Statements as plain_statements;
 ghost use Rattle.jd_bodies.specs.Types as plain_types;
 ghost use Rattle.jd_bodies.specs.Declarations as plain_declarations;
 ghost use Rattle.jd_syntax.specs.JavaTypes.{identifier_view, type_view, written_view};
 
-use crate::declares::Declares;
 use crate::rules::{
     arguments_fit, constant_gives, fault, fit_then, gives, indexed, is_reference, length_gives,
     part_type, result_given, sign_type, target, value_of, valued, variable_gives, whole_type,
 };
 use jd_bodies::{Arguments, Callee, Cause, Fault, Given, ValueType};
+use jd_naming::Declares;
 use jd_syntax::{
     AssignmentOperator, Identifier, InfixOperator, JavaType, PrefixOperator, WrittenType,
 };
@@ -70,7 +71,7 @@ pub(crate) fn joined<D: Declares>(d: &D, a: ValueType, b: ValueType) -> Option<V
 }
 
 /// The type that a written one stands for.
-pub(crate) fn type_by<D: Declares>(d: &D, written: &JavaType) -> ValueType
+pub fn type_by<D: Declares>(d: &D, written: &JavaType) -> ValueType
     ensures { result ≡ plain_declarations.type_by (D.declarations d.now).class_named (type_view written.now) }
 {
     match written {
@@ -85,7 +86,7 @@ pub(crate) fn type_by<D: Declares>(d: &D, written: &JavaType) -> ValueType
 }
 
 /// The type that is written, which some file declares.
-pub(crate) fn written_type<D: Declares>(d: &D, w: &WrittenType) -> Result<ValueType, Fault>
+pub fn written_type<D: Declares>(d: &D, w: &WrittenType) -> Result<ValueType, Fault>
     ensures { result ≡ plain.written_type (D.declarations d.now) (written_view w.now) }
 {
     match type_by(d, &w.written) {
@@ -95,7 +96,7 @@ pub(crate) fn written_type<D: Declares>(d: &D, w: &WrittenType) -> Result<ValueT
 }
 
 /// The class that is written.
-pub(crate) fn written_class<D: Declares>(d: &D, x: &Identifier) -> Result<u32, Fault>
+pub fn written_class<D: Declares>(d: &D, x: &Identifier) -> Result<u32, Fault>
     ensures { result ≡ plain.written_class (D.declarations d.now) (identifier_view x.now) }
 {
     match d.class_named(&x.name) {
@@ -107,7 +108,7 @@ pub(crate) fn written_class<D: Declares>(d: &D, x: &Identifier) -> Result<u32, F
 // ---- operators
 
 /// A part of this type stands where one of that is wanted.
-pub(crate) fn wanted<D: Declares>(
+pub fn wanted<D: Declares>(
     d: &D,
     want: ValueType,
     at: u32,
@@ -526,6 +527,41 @@ pub(crate) fn constructor_parameters<D: Declares>(d: &D, class: u32) -> Option<&
     }
 }
 
+/// The same of what a class extends, if it extends one.
+pub fn above_parameters<D: Declares>(d: &D, class: Option<u32>) -> Option<&[ValueType]>
+    ensures { option_copied result ≡ plain_statements.above_parameters (D.declarations d.now) class }
+{
+    match class {
+        None => Some(&[]),
+        Some(c) => constructor_parameters(d, c),
+    }
+}
+
+/// The parameters that arguments are compared with.
+pub fn or_nothing<'a>(parameters: Option<&'a [ValueType]>) -> &'a [ValueType]
+    ensures { result.now ≡ plain.or_nothing (option_copied parameters.entry) }
+{
+    match parameters {
+        None => &[],
+        Some(ts) => ts,
+    }
+}
+
+/// What is given, where arguments fit what is created so.
+pub fn creation_fits(
+    at: u32,
+    parameters: Option<&[ValueType]>,
+    given: Given,
+    arguments: Arguments,
+) -> Result<Given, Fault>
+    ensures { result ≡ plain.creation_fits at (option_copied parameters.entry) given arguments }
+{
+    match parameters {
+        None => Err(fault(at, Cause::WrongArity)),
+        Some(_) => arguments_fit(at, given, arguments),
+    }
+}
+
 /// What is created.
 pub(crate) fn creation_gives<D: Declares>(
     d: &D,
@@ -537,10 +573,12 @@ pub(crate) fn creation_gives<D: Declares>(
 {
     let c = class?;
     let a = arguments?;
-    match constructor_parameters(d, c) {
-        None => Err(fault(at, Cause::WrongArity)),
-        Some(_) => arguments_fit(at, value_of(ValueType::Class(c)), a),
-    }
+    creation_fits(
+        at,
+        constructor_parameters(d, c),
+        value_of(ValueType::Class(c)),
+        a,
+    )
 }
 
 /// The types of the parameters of what is created.
@@ -548,10 +586,7 @@ pub(crate) fn creation_parameters<D: Declares>(d: &D, class: Result<u32, Fault>)
     ensures { result.now ≡ plain.creation_parameters (D.declarations d.now) class }
 {
     match class {
-        Ok(c) => match constructor_parameters(d, c) {
-            Some(ts) => ts,
-            None => &[],
-        },
+        Ok(c) => or_nothing(constructor_parameters(d, c)),
         Err(_) => &[],
     }
 }

@@ -9,14 +9,14 @@ use jd_bodies::{Arguments, Callee, Cause, Fault, Given, Meaning, Place, ValueTyp
 use jd_syntax::{InfixOperator, PrefixOperator};
 
 /// The token is refused.
-pub(crate) fn fault(at: u32, cause: Cause) -> Fault
+pub fn fault(at: u32, cause: Cause) -> Fault
     ensures { result ≡ record { at = at; cause = cause } }
 {
     Fault { at, cause }
 }
 
 /// A value of the type.
-pub(crate) fn value_of(t: ValueType) -> Given
+pub fn value_of(t: ValueType) -> Given
     ensures { result ≡ plain.value_of t }
 {
     Given {
@@ -43,7 +43,7 @@ pub(crate) fn gives(t: ValueType) -> Result<Given, Fault>
 }
 
 /// The type of the value of a part at this place, which has one.
-pub(crate) fn valued(e: (u32, Result<Given, Fault>)) -> Result<ValueType, Fault>
+pub fn valued(e: (u32, Result<Given, Fault>)) -> Result<ValueType, Fault>
     ensures { result ≡ plain.valued e.0 e.1 }
 {
     match e.1?.value {

@@ -1,7 +1,6 @@
-ghost use Rattle.std.specs.Prelude.{◌≡◌, List};
+ghost use Rattle.std.specs.Prelude.{◌≡◌};
 ghost use Rattle.jd_bodies.specs.Declarations.{Declarations};
-ghost use Rattle.jd_bodies.specs.Scopes.{Local, local_named};
-ghost use Rattle.jd_judging.specs.Views.{signature_view};
+ghost use Rattle.jd_naming.specs.Views.{signature_view};
 
 use jd_bodies::{ValueType, Variable};
 
@@ -53,13 +52,4 @@ pub trait Declares {
     /// What the method or constructor takes and gives.
     fn signature(&self, routine: u32) -> Signature<'_>
         ensures { signature_view result ≡ (declarations self.now).signature routine };
-}
-
-/// The parameters and locals in scope.
-pub trait Locals {
-    ghost locals: { Self → List Local };
-
-    /// The type of the last one of the name.
-    fn type_of(&self, name: &[u8]) -> Option<ValueType>
-        ensures { result ≡ local_named (locals self.now) name.now };
 }

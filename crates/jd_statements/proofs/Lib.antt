@@ -1,0 +1,4 @@
+mod Growing
+mod Members
+mod Sizes
+mod Taken
