@@ -5,3 +5,4 @@ pub mod Refused
 pub mod Resolution
 pub mod WrittenCases
 pub mod Examples
+pub mod Laws

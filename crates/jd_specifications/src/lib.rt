@@ -3,6 +3,8 @@
 
 mod examples;
 mod fault;
+mod laws;
 
 pub use examples::{meaning_examples, spec_fault_examples};
 pub use fault::{SpecCause, SpecFault};
+pub use laws::resolved_is_scoped;
