@@ -260,7 +260,7 @@ from_conditional = (
   ),
 )
 
-from_expression : Each 144 (drop 144 java_productions)
+pub from_expression : Each 144 (drop 144 java_productions)
 from_expression = (
   λ ts parts us h q. operand parts.first us.first.texts us.second.texts (behind_one parts) h.0 (second_behind parts us.second.texts h.1.0 h.1.1.0 h.1.1.1),
   (
