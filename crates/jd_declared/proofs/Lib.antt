@@ -1,0 +1,10 @@
+mod Assembling
+mod Declaring
+mod FewRoutines
+mod Listing
+mod Lists
+mod Meeting
+mod Naming
+mod Nearest
+mod Rooted
+mod Walking

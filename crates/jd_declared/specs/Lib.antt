@@ -1,0 +1,4 @@
+pub mod Named
+pub mod Owned
+pub mod Told
+pub mod Walks
