@@ -1,0 +1,9 @@
+mod Lists
+mod Lineages
+mod Members
+mod Cases
+mod Families
+mod Calls
+mod Bodies
+mod Constants
+mod Kept
