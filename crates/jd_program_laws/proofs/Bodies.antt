@@ -56,7 +56,7 @@ module _ (d : Declarations) where
       let g = through (λ q. members d class ms) (member d class m) s e in
       ⊎_elim (λ first. of_one class file place m g.0 r t g.1 first kind) (λ behind. of_class class file (suc place) ms s r t g.2 behind kind) (in_either r (of_member class file place m) (of_members class file (suc place) ms) h)
 
-  no_fault : (file : ℕ) (r : Result Scope Fault) (rest : Option (ℕ × Fault)) → fault_or file r rest ≡ None → ((s : Scope) × (r ≡ Ok s)) × (rest ≡ None)
+  no_fault : (file : ℕ) (r : Result Scope Fault) (rest : Option (ℕ × Fault)) → fault_or d file r rest ≡ None → ((s : Scope) × (r ≡ Ok s)) × (rest ≡ None)
   no_fault file (Ok s) rest e = ((s, refl), e)
   no_fault file (Err f) rest e = absurd (none-some (file, f) (sym e))
 

@@ -41,14 +41,14 @@ use Rattle.jd_program_laws.proofs.Members.{OwnConstructor, OwnMethod, both_stati
 
 -- ---- roles
 
-builds_same : (r : JavaResult) → written.builds r ≡ members.builds r
-builds_same Void = refl
-builds_same (Gives w) = refl
-builds_same OfConstructor = refl
+builds_same : (d : Declarations) (r : JavaResult) → written.builds d r ≡ members.builds r
+builds_same d Void = refl
+builds_same d (Gives w) = refl
+builds_same d OfConstructor = refl
 
 role_by : (d : Declarations) (class : ℕ) (m : JavaMethod) (b s : Bool) → members.builds m.result ≡ b → m.is_static ≡ s → role d class m ≡ cond b (ConstructorOf class) (cond s Static (cond (has_mark is_helper m.specs) Helper Ordinary))
 role_by d class m b s e f =
-    ap (λ x. cond x (ConstructorOf class) (cond m.is_static Static (cond (has_mark is_helper m.specs) Helper Ordinary))) (builds_same m.result ∙ e)
+    ap (λ x. cond x (ConstructorOf class) (cond m.is_static Static (cond (has_mark is_helper m.specs) Helper Ordinary))) (builds_same d m.result ∙ e)
     ∙ ap (λ x. cond b (ConstructorOf class) (cond x Static (cond (has_mark is_helper m.specs) Helper Ordinary))) f
 
 -- an instance method's
@@ -139,7 +139,7 @@ module _ (units : List JavaUnit) (are : AreClasses units) (not_static : Construc
         nearest = λ other n below o e. s.nearest other n below (record { routine = o.it; there = o.there; holds = (o.method, o.class, sym (ap name_of o.there) ∙ e ∙ named) });
       }
 
-  own_of_method : (c m : ℕ) (s : Method c m) → OwnMethod units s.owner m
+  abbrev own_of_method : (c m : ℕ) (s : Method c m) → OwnMethod units s.owner m
   own_of_method c m s = record { it = s.it; there = s.there; method = s.method; class = s.class }
 
   -- ---- what the contract of a case says of its method
@@ -206,10 +206,10 @@ module _ (units : List JavaUnit) (are : AreClasses units) (not_static : Construc
       subst (λ (o : PlainOwnMembers). In m o.methods) (ap (own units) top ∙ object_declares_nothing units) (method_owned units s.owner m (own_of_method 0 m s))
 
   apart : (a b : ℕ) → (a ≡ b → ⊥) → nat_eq a b ≡ false
-  apart a b no = by (nat_eq a b) refl
+  apart a b unlike = by (nat_eq a b) refl
     where
       by : (t : Bool) → nat_eq a b ≡ t → t ≡ false
-      by true e = absurd (no (same_number a b e))
+      by true e = absurd (unlike (same_number a b e))
       by false e = refl
 
   not_object : (k : JmlCase) (o : Comes units lineage d family k) → nat_eq k.class p.object ≡ false
@@ -295,11 +295,11 @@ module _ (units : List JavaUnit) (are : AreClasses units) (not_static : Construc
           (subst (λ name. In r.0 (declared_as units name q.0)) (sym same_name) q.2)) r.2 in
           subst (λ b. In x (cond b (written_at units lineage d f.number) (inherited units lineage d class f.number))) (sym (ap declared_static other.there ∙ not_static_either)) all
 
-      runs_it : p.lookup m class ≡ Some f.number
+      runs_it : p.lookup class m ≡ Some f.number
       runs_it =
           let name = s.it.name.name in
           let named : routine_name units m ≡ name = ap name_of s.there in
-          let r = seen_one class name (p.lookup m class) (is.lookup.seen m class s.it s.there) (sees_some name named) in
+          let r = seen_one class name (p.lookup class m) (is.lookup.seen class m s.it s.there) (sees_some name named) in
           r.1 ∙ ap Some (one.one_seen units class name r.0 f.number are r.2 (subst (λ n. IsSeen units class n f.number) named f.seen))
 
       of_family : SameFamily units f.number m
@@ -326,9 +326,9 @@ module _ (units : List JavaUnit) (are : AreClasses units) (not_static : Construc
       one_family : family f.number ≡ family m
       one_family = (is.are_families.same f.number m other.it s.it other.there s.there).1 of_family
 
-  runs_ordinary : (r : Role) (m class n : ℕ) → IsOrdinary r → p.lookup m class ≡ Some n → body_on p r m class ≡ Some n
-  runs_ordinary r m class n (inl e) h = ap (λ q. body_on p q m class) e ∙ h
-  runs_ordinary r m class n (inr e) h = ap (λ q. body_on p q m class) e ∙ h
+  runs_ordinary : (r : Role) (m class n : ℕ) → IsOrdinary r → p.lookup class m ≡ Some n → body_on p r m class ≡ Some n
+  runs_ordinary r m class n (inl e) h = let at : body_on p Ordinary m class ≡ Some n = h in ap (λ q. body_on p q m class) e ∙ at
+  runs_ordinary r m class n (inr e) h = let at : body_on p Helper m class ≡ Some n = h in ap (λ q. body_on p q m class) e ∙ at
 
   dispatch_by : (k : JmlCase) (o : Comes units lineage d family k) → Knows o.c o.m o.x → HasReceiver o.x.role → (class : ℕ) → In o.c (lineage class) → CaseFor (specified j) (case_of p k) class
   dispatch_by k o (constructs r there static a b in_ gives role_ has) receiver class up =

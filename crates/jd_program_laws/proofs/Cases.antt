@@ -51,7 +51,8 @@ module _ (units : List JavaUnit) (lineage : ℕ → List ℕ) (d : Declarations)
   pub comes : (k : JmlCase) → In k (all_cases units lineage d family) → Comes k
   comes k h =
       let of = from_flat (cases_of units lineage d family) (range_with_len 0 (length (parents units))) k h in
-      let lt : of.0 < length (parents units) = from_range 0 (length (parents units)) of.0 of.1 in
+      let below = from_range 0 (length (parents units)) of.0 of.1 in
+      let lt : of.0 < length (parents units) = omega (arith, below) in
       ⊎_elim
       (λ first.
       let r = from_flat (constructor_cases units lineage d family of.0) (constructors_run units lineage of.0) k first in

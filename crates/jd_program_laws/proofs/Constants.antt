@@ -58,10 +58,10 @@ constants_tell x y s t p q e =
     sym (no_mark x p) ∙ behind_letter s x y texts ∙ no_mark y q
 
 refuted : (v w : Name) → (v ≡ w → ⊥) → same_name v w ≡ false
-refuted v w no = by (same_name v w) refl
+refuted v w unlike = by (same_name v w) refl
   where
     by : (b : Bool) → same_name v w ≡ b → b ≡ false
-    by true e = absurd (no ((same_name_decides v w).0 e))
+    by true e = absurd (unlike ((same_name_decides v w).0 e))
     by false e = refl
 
 -- ---- parameters that are not refused

@@ -36,11 +36,11 @@ same_number a b e = grind (arith, nat_tests)
 
 pub among : (c : ℕ) (xs : List ℕ) → list_any (nat_eq c) xs ≡ true → In c xs
 among c [] h = absurd cc
-among c (x ∷ xs) h = by (nat_eq c x) refl h
+among c (x ∷ xs) h = by (nat_eq c x) refl h (among c xs)
   where
-    by : (b : Bool) → nat_eq c x ≡ b → (b || list_any (nat_eq c) xs) ≡ true → In c (x ∷ xs)
-    by true is e = inl (same_number c x is)
-    by false is e = inr (among c xs e)
+    by : (b : Bool) → nat_eq c x ≡ b → (b || list_any (nat_eq c) xs) ≡ true → (list_any (nat_eq c) xs ≡ true → In c xs) → In c (x ∷ xs)
+    by true is e rest = inl (same_number c x is)
+    by false is e rest = inr (rest e)
 
 -- ---- from the end
 

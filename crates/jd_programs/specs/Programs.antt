@@ -51,8 +51,8 @@ pub record HasFields (units : List JavaUnit) (d : Declarations) (p : model.Progr
 
 -- a call runs the method that the object's class sees by the name of the one that is called (JLS 15.12.4.4)
 pub record HasLookup (units : List JavaUnit) (p : model.Program) : Type 0 where
-  pub seen : (m c : ℕ) (r : Declared) → slice_get (routines units) m ≡ Some r → MatchOption (p.lookup m c) (SeesNone units c r.name.name) (IsSeen units c r.name.name)
-  pub none : (m c : ℕ) → slice_get (routines units) m ≡ None → p.lookup m c ≡ None
+  pub seen : (c m : ℕ) (r : Declared) → slice_get (routines units) m ≡ Some r → MatchOption (p.lookup c m) (SeesNone units c r.name.name) (IsSeen units c r.name.name)
+  pub none : (c m : ℕ) → slice_get (routines units) m ≡ None → p.lookup c m ≡ None
 
 -- ---- bodies
 
