@@ -1,11 +1,10 @@
 -- The bodies of a program of which no token is refused are resolved.
-use Rattle.std.proofs.Common.{◌≡◌, ◌⊎◌, inl, inr, ⊎_elim, ℕ, zero, suc, Bool, true, false, cond, List, [], ◌∷◌, ◌++◌, map, drop, filter, Option, Some, None, Result, Ok, Err, refl, sym, ap, subst, ◌∙◌}
+use Rattle.std.proofs.Common.{◌≡◌, ◌⊎◌, inl, inr, ⊎_elim, ℕ, zero, suc, Bool, true, false, cond, List, [], ◌∷◌, ◌++◌, map, drop, Option, Some, None, Result, Ok, Err, refl, sym, ap, subst, ◌∙◌}
 use Rattle.std.specs.List.{slice_get}
 use Rattle.std.specs.Option.{option_and_then}
 use Rattle.std.proofs.lemmas.List.{map-append}
 use Rattle.std.proofs.lemmas.Option.{same_Some, none-some}
-use Rattle.jd_syntax.specs.Names.{Name, Declared as DeclaredVariable}
-use Rattle.jd_syntax.specs.JavaTypes.{PlainIdentifier}
+use Rattle.jd_syntax.specs.Names.{Name}
 use Rattle.jd_syntax.specs.JavaTrees.{JavaMember, FieldMember, ConstantMember, MethodMember, JavaMethod, JavaParameter, JavaUnit}
 use Rattle.jd_jclasses.specs.Classes.{DeclaredClass, declared_classes, prelude_count}
 use Rattle.jd_jclasses.specs.Members.{Declared, Kind, FieldOf, ConstantOf, RoutineOf, declared_members, is_routine, of_classes, of_member, of_members}
@@ -21,7 +20,7 @@ use Rattle.jd_bodies.specs.Refused.{fault_from, fault_or, first_fault, member, m
 use Rattle.jd_bodies.specs.Scopes.{Scope, empty_scope}
 use Rattle.jd_bodies.specs.Variables.{Progress, local_name, this_name, with_local}
 use Rattle.jd_resolved_bodies.specs.Laws.{BodiesAreResolved, ConstantsFit}
-use Rattle.jd_resolved_bodies.specs.Lexical.{AreParameters, IsLexicalMethod, IsName}
+use Rattle.jd_resolved_bodies.specs.Lexical.{AreParameters, IsLexicalMethod}
 use Rattle.jd_resolved_bodies.proofs.Parts.{plain_local}
 use Rattle.jd_jml_meaning.specs.JmlCases.{JmlProgram}
 use Rattle.jd_programs.specs.Programs.{IsProgram, body_of_declared, body_of_kind, body_with, parameter_names, variable_name}

@@ -1,12 +1,9 @@
 -- The body that a call runs has a case for each case of the method that is called.
-use Rattle.std.proofs.Common.{◌≡◌, ◌⊎◌, inl, inr, ⊎_elim, ◌<◌, ◌+◌, ℕ, suc, Bool, true, false, not, ◌||◌, cond, nat_eq, List, [], ◌∷◌, length, map, codes, flat_map, Option, Some, None, option_map, refl, sym, ap, subst, ◌∙◌, arith, MatchOption}
+use Rattle.std.proofs.Common.{◌≡◌, ◌⊎◌, inl, inr, ◌<◌, ◌+◌, ℕ, suc, Bool, true, false, not, ◌||◌, cond, nat_eq, List, [], length, map, flat_map, Option, Some, None, option_map, refl, sym, ap, subst, ◌∙◌, arith, MatchOption}
 use Rattle.std.specs.List.{range_with_len, slice_get}
 use Rattle.std.specs.Option.{option_and_then}
-use Rattle.std.proofs.lemmas.Bool.Decides.{nat_tests}
-use Rattle.std.proofs.lemmas.Option.{same_Some, none-some, slice_get-map}
+use Rattle.std.proofs.lemmas.Option.{same_Some, none-some}
 use Rattle.jd_ancestry.specs.Laws.{AboveIsTransitive}
-use Rattle.jd_syntax.specs.Names.{Name}
-use Rattle.jd_syntax.specs.SpecTrees.{PlainClause}
 use Rattle.jd_syntax.specs.JavaTrees.{JavaMethod, JavaResult, Void, Gives, OfConstructor, JavaUnit}
 use Rattle.jd_jclasses.specs.Classes.{IsAncestor, IsSubclass, declared_classes, parents, prelude_count}
 use Rattle.jd_jclasses.specs.Laws.{OneMethod}
@@ -15,29 +12,29 @@ use Rattle.jd_jclasses.specs.Members as members
 use Rattle.jd_jclasses.specs.Methods.{IsSeen, SeesNone, SameFamily, routines}
 use Rattle.jd_jclasses.specs.Methods.SameFamily.{its_own, over}
 use Rattle.jd_jclasses.specs.Refusals.{AreClasses}
-use Rattle.jd_jinfos.specs.Infos.{PlainClassInfo, PlainOwnMembers, class_infos, own_nothing, own_of}
+use Rattle.jd_jinfos.specs.Infos.{PlainOwnMembers, own_nothing, own_of}
 use Rattle.jd_jinfos.proofs.Together.{own_in_infos}
-use Rattle.jd_model.specs.Cases.{Case, Role, Static, Ordinary, Helper, ConstructorOf, SpecifiedProgram}
-use Rattle.jd_model.specs.Programs.{Body, Program, is_subclass}
+use Rattle.jd_model.specs.Cases.{Case, Role, Static, Ordinary, Helper, ConstructorOf}
+use Rattle.jd_model.specs.Programs.{Body, Program}
 use Rattle.jd_call.specs.ResolvedCalls.{CallsAreResolved, CaseFor, HasReceiver, ReceiverVariable, body_on}
 use Rattle.jd_bodies.specs.Declarations.{Declarations}
 use Rattle.jd_bodies.specs.Variables.{this_name}
 use Rattle.jd_jml_meaning.specs.JmlContracts.{JmlContract}
 use Rattle.jd_jml_meaning.specs.ContractFormulas.{contract_of}
 use Rattle.jd_jml_meaning.specs.JmlCases.{JmlCase, JmlProgram, case_of, specified}
-use Rattle.jd_specifications.specs.WrittenCases.{cases_of, contract, contracts, has_mark, is_helper, role}
+use Rattle.jd_specifications.specs.WrittenCases.{cases_of, contract, has_mark, is_helper, role}
 use Rattle.jd_specifications.specs.WrittenCases as written
 use Rattle.jd_programs.specs.Cases.{all_cases, contracts_in, contracts_of_declared, contracts_of_kind, inherited, written_at}
-use Rattle.jd_programs.specs.Members.{constructors_run, declared_as, declared_static, firsts, members_along, members_from, methods_seen, name_of, own, routine_name, static_routine}
+use Rattle.jd_programs.specs.Members.{declared_as, declared_static, firsts, members_along, members_from, methods_seen, name_of, own, routine_name, static_routine}
 use Rattle.jd_programs.specs.Programs.{IsProgram, body_of_declared, body_of_kind, body_with}
-use Rattle.jd_declared.proofs.Lists.{In, Made, filtered_in, in_filter_map, in_map, made_in, place_of}
+use Rattle.jd_declared.proofs.Lists.{In, filtered_in, in_filter_map, in_map, made_in, place_of}
 use Rattle.jd_program_laws.specs.Laws.{ConstructorsAreNotStatic}
-use Rattle.jd_program_laws.proofs.Cases.{Comes, IsCaseFor, Origin, comes, there_is}
+use Rattle.jd_program_laws.proofs.Cases.{Comes, Origin, comes, there_is}
 use Rattle.jd_program_laws.proofs.Cases.Origin.{of_constructor, of_method}
-use Rattle.jd_program_laws.proofs.Families.{Known, Seen, known, seen_by, seen_there, sees}
+use Rattle.jd_program_laws.proofs.Families.{known, seen_there, sees}
 use Rattle.jd_program_laws.proofs.Lineages.{above_it, below_below, in_classes, in_lineage, only_object, through}
 use Rattle.jd_program_laws.proofs.Lists.{among, from_flat, in_flat, same_number}
-use Rattle.jd_program_laws.proofs.Members.{OwnConstructor, OwnMethod, both_static, declared_there, one_in_class, one_of_name, method_owned, own_constructor}
+use Rattle.jd_program_laws.proofs.Members.{OwnMethod, both_static, declared_there, one_in_class, one_of_name, method_owned, own_constructor}
 
 -- ---- roles
 

@@ -1,5 +1,5 @@
 -- The constants of a method's parameters are apart, and none is that of the heap or of the receiver.
-use Rattle.std.proofs.Common.{◌≡◌, ◌≢◌, ◌⊎◌, inl, inr, ℕ, zero, suc, Bool, true, false, not, ◌==◌, ◌&&◌, cond, if◌then◌else◌, List, [], ◌∷◌, ◌++◌, map, codes, bytes_eq, Option, Some, None, Result, Ok, Err, refl, sym, ap, subst, ◌∙◌}
+use Rattle.std.proofs.Common.{◌≡◌, ◌≢◌, ℕ, Bool, true, false, not, ◌==◌, ◌&&◌, if◌then◌else◌, List, [], ◌∷◌, map, codes, bytes_eq, Option, Some, None, Ok, refl, sym, ap, subst, ◌∙◌}
 use Rattle.std.specs.List.{list_all}
 use Rattle.std.specs.Option.{is_none}
 use Rattle.std.proofs.lemmas.Slice.Eq.{bytes_eq-Decides}
@@ -9,18 +9,16 @@ use Rattle.jd_syntax.specs.CodeNames.{same_name}
 use Rattle.jd_syntax.specs.Names.{Name}
 use Rattle.jd_syntax.specs.JavaTrees.{JavaMethod, JavaParameter}
 use Rattle.jd_syntax.proofs.NameTests.{same_name_decides}
-use Rattle.jd_model.specs.Cases.{Parameter}
 use Rattle.jd_model.specs.EntryExit.{constants_of}
 use Rattle.jd_model.specs.Occurrences.{AllApart, NotIn}
 use Rattle.jd_model.specs.SpecialNames.{entry_heap, receiver}
 use Rattle.jd_model.specs.Tables.{parameter_constant, source_name}
-use Rattle.jd_bodies.specs.declared.fault.Fault.{Fault}
 use Rattle.jd_bodies.specs.declared.value.ValueType.{ValueType}
 use Rattle.jd_bodies.specs.declared.value.ValueType.TheVariants as types
-use Rattle.jd_bodies.specs.Declarations.{Declarations, type_by}
+use Rattle.jd_bodies.specs.Declarations.{Declarations}
 use Rattle.jd_bodies.specs.Expressions.{written_type}
 use Rattle.jd_bodies.specs.Judgements.{and_then, only_if}
-use Rattle.jd_bodies.specs.Refused.{body, method, result_known, runs_above, with_parameters, begins_with_super}
+use Rattle.jd_bodies.specs.Refused.{body, method, with_parameters}
 use Rattle.jd_bodies.specs.Scopes.{Local, Scope, empty_scope, local_named}
 use Rattle.jd_bodies.specs.Statements.{with_local, with_name}
 use Rattle.jd_bodies.specs.Variables.{sort_of}

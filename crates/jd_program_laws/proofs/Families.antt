@@ -1,23 +1,20 @@
 -- Families reach what they call.
-use Rattle.std.proofs.Common.{◌≡◌, ◌<◌, ℕ, Bool, true, List, [], length, Option, Some, None, option_map, refl, sym, ap, subst, ◌∙◌, MatchOption}
-use Rattle.std.specs.List.{slice_get}
+use Rattle.std.proofs.Common.{◌≡◌, ◌<◌, ℕ, Bool, List, [], length, Option, Some, None, option_map, sym, ap, subst, ◌∙◌, MatchOption}
 use Rattle.std.proofs.lemmas.Option.{same_Some, none-some}
 use Rattle.jd_reach.specs.Paths.{ReachesBy}
 use Rattle.jd_reach.specs.Paths.ReachesBy.{reaches_by_edge, reaches_itself}
 use Rattle.jd_syntax.specs.JavaTrees.{JavaUnit}
 use Rattle.jd_jclasses.specs.Classes.{parents}
-use Rattle.jd_jclasses.specs.Members.{Declared}
-use Rattle.jd_jclasses.specs.Methods.{IsSeen, SeesNone, routines}
+use Rattle.jd_jclasses.specs.Methods.{IsSeen, SeesNone}
 use Rattle.jd_model.specs.Cases.{Case}
 use Rattle.jd_oblig.specs.KeptByObligations.{IsReachability}
-use Rattle.jd_bodies.specs.Declarations.{Declarations}
 use Rattle.jd_jml_meaning.specs.JmlContracts.{JmlContract}
 use Rattle.jd_jml_meaning.specs.JmlCases.{JmlCase, JmlProgram, case_of, specified}
-use Rattle.jd_programs.specs.Cases.{all_cases, contracts_of_declared, written_at}
-use Rattle.jd_programs.specs.Members.{constructors_run, firsts, members_along, methods_seen, own, routine_name}
+use Rattle.jd_programs.specs.Cases.{all_cases}
+use Rattle.jd_programs.specs.Members.{firsts, members_along, methods_seen, own, routine_name}
 use Rattle.jd_programs.specs.Programs.{IsProgram}
-use Rattle.jd_declared.proofs.Lists.{In, Made, at_place, in_filter_map}
-use Rattle.jd_program_laws.proofs.Cases.{Comes, Origin, behind_formulas, comes}
+use Rattle.jd_declared.proofs.Lists.{In, at_place, in_filter_map}
+use Rattle.jd_program_laws.proofs.Cases.{Origin, behind_formulas, comes}
 use Rattle.jd_program_laws.proofs.Cases.Origin.{of_constructor, of_method}
 use Rattle.jd_program_laws.proofs.Members.{Routine, own_constructor}
 

@@ -21,7 +21,7 @@ use Rattle.jd_jml_meaning.specs.JmlContracts.{JmlContract}
 use Rattle.jd_jml_meaning.specs.JmlCases.{JmlCase, JmlKept, JmlProgram, case_of, specified}
 use Rattle.jd_jml_meaning.specs.Laws.{CasesAreKeptAlike, HasOwnConstants}
 use Rattle.jd_specifications.specs.WrittenCases.{cases_of, contract, parameter}
-use Rattle.jd_programs.specs.Cases.{all_cases, contracts_in, contracts_of_declared, contracts_of_kind, inherited, written_at}
+use Rattle.jd_programs.specs.Cases.{all_cases, contracts_of_declared, contracts_of_kind, inherited, written_at}
 use Rattle.jd_programs.specs.Members.{declared_as, routine_name, static_routine}
 use Rattle.jd_programs.specs.Programs.{IsProgram}
 use Rattle.jd_declared.proofs.Lists.{In, at_place, in_map}

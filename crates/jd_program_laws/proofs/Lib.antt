@@ -7,3 +7,4 @@ mod Calls
 mod Bodies
 mod Constants
 mod Kept
+mod Meaning

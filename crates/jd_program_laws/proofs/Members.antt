@@ -1,5 +1,5 @@
 -- What classes declare themselves, and which methods are members of them.
-use Rattle.std.proofs.Common.{◌≡◌, ◌≢◌, ◌⊎◌, ◌&&◌, ◌||◌, inl, inr, ⊎_elim, ℕ, ◌+◌, ◌<◌, Bool, true, false, not, nat_eq, List, [], ◌∷◌, if◌then◌else◌, bytes_eq, filter, Option, Some, None, refl, sym, ap, ap₂, subst, ◌∙◌, arith}
+use Rattle.std.proofs.Common.{◌≡◌, ◌≢◌, ◌⊎◌, ◌&&◌, ◌||◌, inl, inr, ⊎_elim, ℕ, ◌+◌, Bool, true, false, nat_eq, List, [], ◌∷◌, if◌then◌else◌, bytes_eq, Some, refl, sym, ap, subst, ◌∙◌, arith}
 use Rattle.std.specs.List.{list_any, slice_get}
 use Rattle.std.proofs.lemmas.Bool.Decides.{nat_tests}
 use Rattle.std.proofs.lemmas.Option.{same_Some}
@@ -7,14 +7,14 @@ use Rattle.std.proofs.lemmas.Slice.Eq.{bytes_eq-Decides}
 use Rattle.jd_syntax.specs.JavaTrees.{JavaUnit}
 use Rattle.jd_jclasses.specs.Classes.{IsAncestor, IsSubclass}
 use Rattle.jd_jclasses.specs.Laws.{OneMethod}
-use Rattle.jd_jclasses.specs.Members.{Declared, declared_members, is_constructor, is_method, is_static}
+use Rattle.jd_jclasses.specs.Members.{Declared, is_constructor, is_method, is_static}
 use Rattle.jd_jclasses.specs.Methods.{Declares, IsSeen, routines}
-use Rattle.jd_jclasses.specs.Refusals.{AreClasses, IsBadOverride}
+use Rattle.jd_jclasses.specs.Refusals.{AreClasses}
 use Rattle.jd_jinfos.specs.Infos.{is_constructor_of, is_method_of, is_of}
 use Rattle.jd_jseen.proofs.Routines.{routines_are_members}
 use Rattle.jd_programs.specs.Members.{declared_as, firsts, name_of, own, routine_name}
 use Rattle.jd_declared.proofs.Declaring.{has_number, numbered}
-use Rattle.jd_declared.proofs.Lists.{In, PlaceOf, filtered_in, first_place, in_filter}
+use Rattle.jd_declared.proofs.Lists.{In, filtered_in, first_place, in_filter}
 
 -- the routine of a number, of which something holds
 pub record Routine (units : List JavaUnit) (m : ℕ) : Type 0 where

@@ -5,6 +5,9 @@ use Rattle.jd_syntax.specs.JavaTrees.{JavaMethod, JavaParameter, JavaUnit}
 use Rattle.jd_jclasses.specs.Members.{Declared, RoutineOf, is_constructor, is_static}
 use Rattle.jd_jclasses.specs.Methods.{routines}
 use Rattle.jd_jclasses.specs.Refusals.{AreClasses}
+use Rattle.jd_classes.specs.Tables.{AreTables}
+use Rattle.jd_classes.specs.declared.classes.Classes.{Classes}
+use Rattle.jd_bodies.specs.Declarations.{AreDeclarations, Declarations}
 use Rattle.jd_model.specs.ResolvedBodies.{AllResolved}
 use Rattle.jd_bodies.specs.Refused.{first_fault}
 use Rattle.jd_resolved_bodies.specs.Laws.{ConstantsFit}
@@ -39,6 +42,10 @@ abbrev pub HaveParameterNames : List JavaUnit → Type 0
 HaveParameterNames units = (m : ℕ) (r : Declared) (t : JavaMethod) → slice_get (routines units) m ≡ Some r → r.kind ≡ RoutineOf t → AreParameterNames t.parameters
 
 -- ---- laws
+
+-- what has tables has a meaning
+abbrev pub ProgramsHaveMeanings : Type 0
+ProgramsHaveMeanings = (units : List JavaUnit) (t : Classes) → AreTables units t → (d : Declarations) → AreDeclarations units d → (j : JmlProgram) × IsProgram units j
 
 abbrev pub FamiliesOfProgramsReach : Type 0
 FamiliesOfProgramsReach = (units : List JavaUnit) (j : JmlProgram) → IsProgram units j → IsReachability (specified j)

@@ -1,10 +1,19 @@
-ghost use Rattle.jd_program_laws.specs.Laws.{BodiesOfProgramsAreResolved, CallsOfProgramsAreResolved, EveryClosedCaseOfProgramsIsKept, FamiliesOfProgramsReach};
+ghost use Rattle.jd_program_laws.specs.Laws.{BodiesOfProgramsAreResolved, CallsOfProgramsAreResolved, EveryClosedCaseOfProgramsIsKept, FamiliesOfProgramsReach, ProgramsHaveMeanings};
 
 use jd_ancestry::depths_are_an_order;
 use jd_jclasses::one_method;
 use jd_jml_meaning::cases_are_kept_alike;
+use jd_jseen::{numbers_of_classes, numbers_of_routines};
 use jd_oblig::every_closed_case_is_kept;
 use jd_resolved_bodies::bodies_are_resolved;
+
+/// No program that has tables is without a meaning, so that the laws below say something of each.
+pub fn programs_have_meanings()
+    ensures { ProgramsHaveMeanings }
+{
+    numbers_of_classes();
+    numbers_of_routines();
+}
 
 /// Each family of methods reaches itself and what is reached by those that it reaches, and each case has one of the program's families.
 pub fn families_are_reachable()

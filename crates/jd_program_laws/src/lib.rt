@@ -5,5 +5,5 @@ mod laws;
 
 pub use laws::{
     bodies_of_programs_are_resolved, calls_are_resolved, every_closed_case_of_programs_is_kept,
-    families_are_reachable,
+    families_are_reachable, programs_have_meanings,
 };

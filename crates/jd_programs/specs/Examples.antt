@@ -7,10 +7,10 @@
 -- where A's constructor has one case, A's m two, s one, B's m one, v one, and the others none.
 use Rattle.std.specs.Prelude.{◌≡◌, ℕ, true, false, Bool, nat_eq, nat_lt, List, [], ◌∷◌, map, if◌then◌else◌, Option, Some, None, codes}
 use Rattle.std.specs.Str.{bytes_eq}
-use Rattle.jd_syntax.specs.JavaTypes.{PlainIdentifier, PlainWritten, IntType}
+use Rattle.jd_syntax.specs.JavaTypes.{PlainIdentifier, IntType}
 use Rattle.jd_syntax.specs.SpecTrees.{PlainClause, Requires, Also, PlainSpecBlock, Boolean}
 use Rattle.jd_syntax.specs.declared.spec.SpecPlace.TheVariants.{Method as BeforeMethod}
-use Rattle.jd_syntax.specs.JavaTrees.{JavaClass, JavaMember, JavaMethod, JavaResult, MethodMember, Gives, OfConstructor, JavaUnit}
+use Rattle.jd_syntax.specs.JavaTrees.{JavaClass, JavaMember, JavaResult, MethodMember, Gives, OfConstructor, JavaUnit}
 use Rattle.jd_bodies.specs.declared.value.ValueType.TheVariants as types
 use Rattle.jd_bodies.specs.Declarations.{Declarations}
 use Rattle.jd_jml_meaning.specs.JmlCases.{JmlCase}

@@ -1,10 +1,10 @@
 -- The code of expressions that stand as statements, and of declared locals, is resolved.
-use Rattle.std.proofs.Common.{◌≡◌, ℕ, Bool, true, false, List, [], ◌∷◌, ◌++◌, Option, Some, None, refl}
+use Rattle.std.proofs.Common.{ℕ, Bool, true, false, List, [], ◌∷◌, Option, Some, None, refl}
 use Rattle.jd_syntax.specs.JavaTypes.{PlainIdentifier, PlainWritten}
 use Rattle.jd_syntax.specs.JavaTrees as java
 use Rattle.jd_syntax.specs.JavaTrees.{JavaExpr, JavaExprs, JavaDeclarator, JavaForStart}
 use Rattle.jd_syntax.specs.Codes as code
-use Rattle.jd_syntax.specs.Codes.{Expr, Stmt, exprs_of}
+use Rattle.jd_syntax.specs.Codes.{Expr}
 use Rattle.jd_syntax.specs.Names.{Name}
 use Rattle.jd_syntax.specs.declared.code.BinaryOp.{BinaryOp}
 use Rattle.jd_syntax.specs.declared.java.PrefixOperator.{PrefixOperator}
@@ -13,7 +13,7 @@ use Rattle.jd_model.specs.ResolvedBodies.{NotSpecial}
 use Rattle.jd_bodies.specs.declared.place.Place.{Place}
 use Rattle.jd_bodies.specs.declared.value.ValueType.{ValueType}
 use Rattle.jd_bodies.specs.declared.value.ValueType.TheVariants as types
-use Rattle.jd_bodies.specs.Bodies.{Lines, assign_lines, behind_default, call_lines, change_lines, declaration, declared_lines, default, default_set, effect_lines, effects_lines, in_scope, initial_lines, prefix_lines, set_lines, start, static_on}
+use Rattle.jd_bodies.specs.Bodies.{assign_lines, behind_default, call_lines, change_lines, declaration, declared_lines, default, default_set, effect_lines, effects_lines, in_scope, initial_lines, prefix_lines, set_lines, start, static_on}
 use Rattle.jd_bodies.specs.Codes.{Made, Target, ToLocal, ToField, ToElement, NoTarget, assignment_operation, code_of, codes_of, count_operation, one, target_of, type_before}
 use Rattle.jd_bodies.specs.Declarations.{Declarations, type_by}
 use Rattle.jd_bodies.specs.Expressions.{class_before}

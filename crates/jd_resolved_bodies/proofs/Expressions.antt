@@ -1,5 +1,5 @@
 -- The code of an expression is resolved, and assigns no special variable.
-use Rattle.std.proofs.Common.{◌≡◌, ℕ, ℤ, pos, Bool, true, false, cond, List, [], ◌∷◌, ◌++◌, Option, Some, None, refl, sym, ap, subst, ◌∙◌}
+use Rattle.std.proofs.Common.{◌≡◌, ℕ, ℤ, Bool, true, false, cond, List, [], Option, Some, None, refl}
 use Rattle.jd_syntax.specs.JavaTrees as java
 use Rattle.jd_syntax.specs.JavaTrees.{JavaExpr, JavaExprs}
 use Rattle.jd_syntax.specs.Codes as code
@@ -8,7 +8,6 @@ use Rattle.jd_syntax.specs.declared.code.BinaryOp.{BinaryOp}
 use Rattle.jd_syntax.specs.declared.code.UnaryOp.TheVariants as unary
 use Rattle.jd_syntax.specs.declared.java.InfixOperator.{InfixOperator}
 use Rattle.jd_syntax.specs.declared.java.InfixOperator.TheVariants as operators
-use Rattle.jd_syntax.specs.declared.java.PrefixOperator.{PrefixOperator}
 use Rattle.jd_syntax.specs.declared.java.PrefixOperator.TheVariants as prefixes
 use Rattle.jd_model.specs.WellFormedHeaps.{in_int}
 use Rattle.jd_bodies.specs.declared.place.Meaning.{Meaning}
@@ -20,14 +19,14 @@ use Rattle.jd_bodies.specs.declared.value.Variable.{Variable}
 use Rattle.jd_bodies.specs.declared.value.Variable.TheVariants as variables
 use Rattle.jd_bodies.specs.declared.value.ValueType.{ValueType}
 use Rattle.jd_bodies.specs.declared.value.ValueType.TheVariants as types
-use Rattle.jd_bodies.specs.Codes.{Arguments, Made, Steps, Target, ToLocal, ToField, ToElement, NoTarget, arguments_of, assign_value, assignment_operation, called, cast_code, change_value, code_of, codes_of, constant_code, constructor_code, count_operation, created, created_array, field_target, infix_code, instance_code, list_first, member_code, member_target, method_by, method_on, minus_code, name_code, name_target, new_code, old_value, one, own_call_by, own_call_code, prefix_code, set_value, static_call_code, steps_code, target_of, this_code, type_before, variable, variable_code}
+use Rattle.jd_bodies.specs.Codes.{Arguments, Made, Target, ToLocal, ToField, ToElement, NoTarget, arguments_of, assign_value, assignment_operation, called, cast_code, change_value, code_of, codes_of, constant_code, count_operation, created, created_array, field_target, infix_code, instance_code, member_code, member_target, method_by, method_on, minus_code, name_code, name_target, new_code, old_value, one, own_call_by, own_call_code, set_value, static_call_code, target_of, type_before, variable_code}
 use Rattle.jd_bodies.specs.Declarations.{Declarations, type_by}
 use Rattle.jd_bodies.specs.Expressions.{callee_by, class_before}
-use Rattle.jd_bodies.specs.Scopes.{Local, local_named, meaning, meaning_by, variable_meaning}
+use Rattle.jd_bodies.specs.Scopes.{Local, local_named, meaning, meaning_by}
 use Rattle.jd_bodies.specs.Variables.{Progress, temporary}
 use Rattle.jd_resolved_bodies.specs.Laws.{ConstantsFit}
 use Rattle.jd_resolved_bodies.specs.Lexical.{AreLexical, IsLexical, IsName}
-use Rattle.jd_resolved_bodies.proofs.Parts.{AllGood, Good, GoodArguments, GoodExprs, GoodList, GoodPart, GoodSteps, GoodStmts, GoodTarget, code_good, exprs_good, in_order_good, literal, negative, plain_local, steps_good}
+use Rattle.jd_resolved_bodies.proofs.Parts.{AllGood, Good, GoodArguments, GoodList, GoodPart, GoodSteps, GoodTarget, exprs_good, in_order_good, literal, negative, plain_local, steps_good}
 
 -- ---- assignments
 

@@ -1,7 +1,6 @@
 -- Which jumps leave a statement that is not refused, and which are asked for beside others.
-use Rattle.std.proofs.Common.{◌≡◌, ◌⊎◌, ◌||◌, ◌&&◌, inl, inr, ⊎_elim, ℕ, Bool, true, false, not, cond, if◌then◌else◌, List, [], ◌∷◌, ◌++◌, filter, bytes_eq, Option, Some, None, Result, Ok, Err, refl, sym, ap, ap₂, subst, ◌∙◌}
+use Rattle.std.proofs.Common.{◌≡◌, ◌⊎◌, ◌||◌, ◌&&◌, inl, inr, ⊎_elim, ℕ, Bool, true, false, not, cond, List, [], ◌∷◌, filter, bytes_eq, Option, Some, None, Result, Ok, Err, refl, sym, ap, ◌∙◌}
 use Rattle.std.specs.List.{list_any}
-use Rattle.std.specs.Option.{is_none}
 use Rattle.std.proofs.lemmas.Slice.Eq.{bytes_eq-Decides}
 use Rattle.jd_syntax.specs.JavaTypes.{PlainIdentifier, PlainWritten}
 use Rattle.jd_syntax.specs.JavaTrees.{JavaExpr, java_exprs, JavaDeclarator, JavaForStart, Declared, Evaluated, JavaStmt, Block, Empty, Local as Declaration, Evaluate, Label, If, IfElse, While, For, Break, Continue, Return, Throw, Try, TryFinally, Super, JavaStmts, NoStmts, StmtThen, Catch, JavaHandlers, NoHandlers, HandlerThen}
@@ -18,7 +17,7 @@ use Rattle.jd_bodies.specs.Judgements.{and_then, only_if}
 use Rattle.jd_bodies.specs.Expressions.{arguments, at_of, creation_fits, given, or_nothing, value, value_of, wanted, written_class, written_type}
 use Rattle.jd_bodies.specs.Scopes.{Scope}
 use Rattle.jd_bodies.specs.Types.{throwable}
-use Rattle.jd_bodies.specs.Statements.{above_parameters, caught, constructed, declared, declared_names, effect, effects, for_head, for_start, handlers, inside_label, inside_loop, is_loop, label_named, last_label, loop_label, may_break, may_continue, optional_part, out_of, part, returned, returned_nothing, returned_value, some_label, stmt, stmts, while_head, with_name}
+use Rattle.jd_bodies.specs.Statements.{above_parameters, caught, constructed, declared, declared_names, effect, effects, for_head, for_start, handlers, inside_loop, may_break, may_continue, optional_part, out_of, part, returned, returned_value, stmt, stmts, while_head, with_name}
 
 -- ---- results in a row
 

@@ -1,16 +1,15 @@
 -- Code that is resolved and assigns no special variable, by its parts.
-use Rattle.std.proofs.Common.{◌≡◌, ◌≤◌, ℕ, zero, suc, ℤ, pos, negsuc, Bool, true, false, cond, nat_eq, List, [], ◌∷◌, ◌++◌, Option, Some, None, refl, sym, ap, subst, ◌∙◌, arith}
+use Rattle.std.proofs.Common.{◌≡◌, ◌≤◌, ℕ, zero, suc, pos, Bool, true, false, cond, nat_eq, List, [], ◌∷◌, ◌++◌, refl, arith}
 use Rattle.std.specs.Prelude.{neg_ℤ}
 use Rattle.std.specs.Fmt.{decimal}
 use Rattle.jd_syntax.specs.Codes as code
 use Rattle.jd_syntax.specs.Codes.{Expr, Exprs, Stmt, PlainCode, exprs_of, stmts_of}
-use Rattle.jd_syntax.specs.Names.{Name}
 use Rattle.jd_model.specs.Occurrences.{Always, CodeIn, ExprIn, ExprsIn, StmtIn}
 use Rattle.jd_model.specs.ResolvedBodies.{AreResolvedExprs, IsResolvedCode, IsResolvedExpr, IsResolvedStmt, NotSpecial}
 use Rattle.jd_model.specs.WellFormedHeaps.{in_int}
 use Rattle.jd_bodies.specs.declared.value.ValueType.{ValueType}
 use Rattle.jd_bodies.specs.Codes.{Arguments, Made, Steps, Target, ToLocal, ToField, ToElement, NoTarget}
-use Rattle.jd_bodies.specs.Variables.{Progress, count_of, local_name, local_text}
+use Rattle.jd_bodies.specs.Variables.{Progress, count_of, local_name}
 use Rattle.jd_resolved_bodies.specs.Lexical.{IsName}
 
 abbrev pub Good : Expr → Type 0

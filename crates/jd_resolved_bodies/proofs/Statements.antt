@@ -1,10 +1,9 @@
 -- The code of statements and bodies that are not refused is resolved.
-use Rattle.std.proofs.Common.{◌≡◌, ◌⊎◌, ◌||◌, inl, inr, ℕ, Bool, true, false, cond, List, [], ◌∷◌, ◌++◌, Option, Some, None, Result, Ok, Err, refl, sym, ap, subst, ◌∙◌}
-use Rattle.jd_base.specs.declared.sort.Sort.TheVariants.{Ref as RefSort}
+use Rattle.std.proofs.Common.{◌≡◌, ◌⊎◌, ◌||◌, ℕ, Bool, true, false, List, [], ◌∷◌, ◌++◌, Option, Some, None, Result, Ok, refl, sym, ap, ◌∙◌}
 use Rattle.jd_syntax.specs.JavaTypes.{PlainIdentifier}
-use Rattle.jd_syntax.specs.JavaTrees.{JavaExpr, JavaExprs, java_exprs, JavaForStart, Declared as DeclaredStart, Evaluated, JavaStmt, Block, Empty, Local as Declaration, Evaluate, Label, If, IfElse, While, For, Break, Continue, Return, Throw, Try, TryFinally, Super, JavaStmts, NoStmts, StmtThen, java_stmts, JavaHandlers, Catch, NoHandlers, HandlerThen, JavaParameter, JavaResult, Void, Gives, OfConstructor, JavaMethod}
+use Rattle.jd_syntax.specs.JavaTrees.{JavaExpr, java_exprs, JavaStmt, Block, Empty, Local as Declaration, Evaluate, Label, If, IfElse, While, For, Break, Continue, Return, Throw, Try, TryFinally, Super, JavaStmts, NoStmts, StmtThen, java_stmts, JavaHandlers, Catch, NoHandlers, HandlerThen, JavaParameter, JavaResult, Void, Gives, OfConstructor, JavaMethod}
 use Rattle.jd_syntax.specs.Codes as code
-use Rattle.jd_syntax.specs.Codes.{Expr, OfClass, PlainCode, Stmt, exprs_of, stmts_of}
+use Rattle.jd_syntax.specs.Codes.{Expr, PlainCode, Stmt, exprs_of, stmts_of}
 use Rattle.jd_syntax.specs.Names.{Name}
 use Rattle.jd_model.specs.Occurrences.{Always, CodeIn}
 use Rattle.jd_model.specs.ResolvedBodies.{AreHandlers, NotSpecial}
@@ -14,9 +13,9 @@ use Rattle.jd_bodies.specs.declared.place.Returns.{Returns}
 use Rattle.jd_bodies.specs.declared.value.ValueType.{ValueType}
 use Rattle.jd_bodies.specs.declared.value.ValueType.TheVariants as types
 use Rattle.jd_bodies.specs.Bodies.{Exits, Lines, Loop, above, above_lines, begun, block_if, block_lines, body_of, class_number, condition_code, effects_lines, handler_code, handler_lines, has_handlers, label_if, lines, loop_exits, loop_lines, no_exits, nothing_done, parameter_locals, return_lines, scope_names, start, thrown_again, try_lines, unwritten, with_exit, with_parameters, in_scope}
-use Rattle.jd_bodies.specs.Codes.{Made, code_of, codes_of}
+use Rattle.jd_bodies.specs.Codes.{code_of, codes_of}
 use Rattle.jd_bodies.specs.Declarations.{Declarations}
-use Rattle.jd_bodies.specs.Jumps.{Asked, in_label, in_loop, jumps, jumps_in, jumps_in_handlers, leaves_label, leaves_loop, repeats_loop}
+use Rattle.jd_bodies.specs.Jumps.{Asked, jumps, jumps_in, jumps_in_handlers, leaves_label, leaves_loop, repeats_loop}
 use Rattle.jd_bodies.specs.Judgements.{and_then}
 use Rattle.jd_bodies.specs.Refused.{begins_with_super, body, method, needs_none, place_of, result_known, returns_of, runs_above}
 use Rattle.jd_bodies.specs.Refused as refused
@@ -25,17 +24,17 @@ use Rattle.jd_bodies.specs.Statements.{caught, for_head, handlers, inside_label,
 use Rattle.jd_bodies.specs.Types.{throwable}
 use Rattle.jd_bodies.specs.Variables.{Progress, local_name, temporary, with_local, with_loop}
 use Rattle.jd_resolved_bodies.specs.Laws.{BodiesAreResolved, ConstantsFit, IsResolvedBody}
-use Rattle.jd_resolved_bodies.specs.Lexical.{AreLexical, AreLexicalHandlers, AreLexicalStmts, EachLexical, IsLexical, IsLexicalMethod, IsLexicalStmt, IsName, MaybeLexical}
-use Rattle.jd_resolved_bodies.proofs.Parts.{Good, GoodCode, GoodExprs, GoodPart, GoodStmts, code_good, exprs_good, in_order_good, plain_local}
+use Rattle.jd_resolved_bodies.specs.Lexical.{AreLexical, AreLexicalHandlers, AreLexicalStmts, EachLexical, IsLexicalMethod, IsLexicalStmt, MaybeLexical}
+use Rattle.jd_resolved_bodies.proofs.Parts.{Good, GoodExprs, GoodPart, GoodStmts, code_good, exprs_good, in_order_good, plain_local}
 use Rattle.jd_resolved_bodies.proofs.Expressions.{all_good, good}
 use Rattle.jd_resolved_bodies.proofs.Effects.{declaration_good, effect_good, effects_good, start_good}
-use Rattle.jd_resolved_bodies.proofs.Exits.{Fits, IsIn, inside, label_fits, loop_fits, part_fits}
-use Rattle.jd_resolved_bodies.proofs.Jumps.{Keeps, Wider, and_both, ask, has_label, left_it, name_keeps, or_cases, or_left, or_right, stays, then_keeps, through, value_keeps, wider_jumps}
+use Rattle.jd_resolved_bodies.proofs.Exits.{Fits, inside, label_fits, loop_fits, part_fits}
+use Rattle.jd_resolved_bodies.proofs.Jumps.{Keeps, and_both, ask, left_it, name_keeps, or_cases, or_left, or_right, stays, then_keeps, through, value_keeps, wider_jumps}
 use Rattle.std.proofs.Common.{⊎_elim, bytes_eq, ◌&&◌}
 use Rattle.std.specs.List.{list_any}
 use Rattle.std.proofs.lemmas.Slice.Eq.{bytes_eq-Decides}
 use Rattle.jd_bodies.specs.Statements.{label_named, loop_label}
-use Rattle.jd_resolved_bodies.proofs.Targets.{allows, known, last_it, may, targets, targets_in}
+use Rattle.jd_resolved_bodies.proofs.Targets.{allows, known, last_it, targets, targets_in}
 
 -- ---- forms of statements
 

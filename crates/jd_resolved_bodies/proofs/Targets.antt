@@ -1,11 +1,10 @@
 -- Each jump in a statement that is not refused has its target in it or around it.
-use Rattle.std.proofs.Common.{◌≡◌, ◌⊎◌, ◌||◌, ◌&&◌, inl, inr, ⊎_elim, ℕ, Bool, true, false, not, cond, if◌then◌else◌, List, [], ◌∷◌, ◌++◌, filter, bytes_eq, Option, Some, None, Result, Ok, Err, refl, sym, ap, subst, ◌∙◌}
+use Rattle.std.proofs.Common.{◌≡◌, ◌⊎◌, ◌||◌, ◌&&◌, ⊎_elim, ℕ, Bool, true, false, not, cond, if◌then◌else◌, List, [], ◌∷◌, ◌++◌, filter, bytes_eq, Option, Some, None, Ok, refl, sym, ap, ◌∙◌}
 use Rattle.std.specs.List.{list_any}
 use Rattle.std.proofs.lemmas.Cmp.{nat_list_eq_equiv}
 use Rattle.std.proofs.lemmas.Slice.Eq.{bytes_eq-Decides}
 use Rattle.jd_syntax.specs.JavaTypes.{PlainIdentifier}
 use Rattle.jd_syntax.specs.JavaTrees.{JavaStmt, Block, Empty, Local as Declaration, Evaluate, Label, If, IfElse, While, For, Break, Continue, Return, Throw, Try, TryFinally, Super, JavaStmts, NoStmts, StmtThen, Catch, JavaHandlers, NoHandlers, HandlerThen}
-use Rattle.jd_bodies.specs.declared.fault.Fault.{Fault}
 use Rattle.jd_bodies.specs.declared.place.Place.{Place}
 use Rattle.jd_bodies.specs.declared.place.Returns.{Returns}
 use Rattle.jd_bodies.specs.declared.value.ValueType.TheVariants.{Boolean}
@@ -13,7 +12,7 @@ use Rattle.jd_bodies.specs.Declarations.{Declarations}
 use Rattle.jd_bodies.specs.Jumps.{Asked, in_label, in_loop, is_asked, jumps, jumps_in, jumps_in_handlers}
 use Rattle.jd_bodies.specs.Scopes.{Scope}
 use Rattle.jd_bodies.specs.Statements.{caught, for_head, handlers, inside_label, is_loop, label_named, last_label, loop_label, may_break, may_continue, out_of, part, some_label, stmt, stmts, while_head}
-use Rattle.jd_resolved_bodies.proofs.Jumps.{Around, and_both, around_both, both_and, caught_keeps, for_head_gives, handlers_keep, has_label, left_it, only_true, or_cases, or_left, or_right, out_keeps, part_keeps, same_around, stmt_keeps, then_keeps, through, while_head_gives}
+use Rattle.jd_resolved_bodies.proofs.Jumps.{Around, and_both, around_both, both_and, caught_keeps, for_head_gives, handlers_keep, has_label, left_it, only_true, or_cases, or_left, or_right, part_keeps, same_around, stmt_keeps, through, while_head_gives}
 
 -- ---- what the labels around and a loop allow
 

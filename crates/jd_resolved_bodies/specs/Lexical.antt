@@ -2,7 +2,7 @@
 -- directly behind a minus alone (JLS 3.10.1).
 use Rattle.std.specs.Prelude.{◌≡◌, ◌≤◌, ℕ, Bool, true, false, cond, List, [], ◌∷◌, Option, Some, None}
 use Rattle.jd_syntax.specs.CodeNames.{begins_with_at}
-use Rattle.jd_syntax.specs.JavaTrees.{JavaExpr, Integer, Boolean, Null, This, Name, Field, Parenthesized, Call, MethodCall, New, NewArray, Index, Prefix, Postfix, Cast, Infix, InstanceOf, Conditional, Assign, JavaExprs, NoExprs, ExprThen, java_exprs, JavaDeclarator, JavaForStart, Declared, Evaluated, JavaStmt, Block, Empty, Local, Evaluate, Label, If, IfElse, While, For, Break, Continue, Return, Throw, Try, TryFinally, Super, JavaStmts, NoStmts, StmtThen, java_stmts, JavaHandlers, NoHandlers, HandlerThen, Catch, JavaParameter, JavaMethod}
+use Rattle.jd_syntax.specs.JavaTrees.{JavaExpr, Integer, Boolean, Null, This, Name, Field, Parenthesized, Call, MethodCall, New, NewArray, Index, Prefix, Postfix, Cast, Infix, InstanceOf, Conditional, Assign, JavaExprs, NoExprs, ExprThen, JavaDeclarator, JavaForStart, Declared, Evaluated, JavaStmt, Block, Empty, Local, Evaluate, Label, If, IfElse, While, For, Break, Continue, Return, Throw, Try, TryFinally, Super, JavaStmts, NoStmts, StmtThen, java_stmts, JavaHandlers, NoHandlers, HandlerThen, Catch, JavaParameter, JavaMethod}
 use Rattle.jd_syntax.specs.declared.java.PrefixOperator.{PrefixOperator}
 use Rattle.jd_syntax.specs.declared.java.PrefixOperator.TheVariants as prefixes
 
