@@ -1,8 +1,8 @@
 mod Assembling
-mod Declaring
+pub mod Declaring
 mod FewRoutines
 mod Listing
-mod Lists
+pub mod Lists
 mod Meeting
 mod Naming
 mod Nearest

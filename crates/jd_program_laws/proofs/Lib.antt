@@ -1,0 +1,10 @@
+mod Lists
+mod Lineages
+mod Members
+mod Cases
+mod Families
+mod Calls
+mod Bodies
+mod Constants
+mod Kept
+mod Meaning

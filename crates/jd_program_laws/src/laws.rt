@@ -1,0 +1,46 @@
+ghost use Rattle.jd_program_laws.specs.Laws.{BodiesOfProgramsAreResolved, CallsOfProgramsAreResolved, EveryClosedCaseOfProgramsIsKept, FamiliesOfProgramsReach, ProgramsHaveMeanings};
+
+use jd_ancestry::depths_are_an_order;
+use jd_jclasses::one_method;
+use jd_jml_meaning::cases_are_kept_alike;
+use jd_jseen::{numbers_of_classes, numbers_of_routines};
+use jd_oblig::every_closed_case_is_kept;
+use jd_resolved_bodies::bodies_are_resolved;
+
+/// No program that has tables is without a meaning, so that the laws below say something of each.
+pub fn programs_have_meanings()
+    ensures { ProgramsHaveMeanings }
+{
+    numbers_of_classes();
+    numbers_of_routines();
+}
+
+/// Each family of methods reaches itself and what is reached by those that it reaches, and each case has one of the program's families.
+pub fn families_are_reachable()
+    ensures { FamiliesOfProgramsReach }
+{}
+
+/// The body that a call runs has a case for each case of the method that is called (JLS 15.12.4.4; JML Reference Manual, 16.1).
+pub fn calls_are_resolved()
+    ensures { CallsOfProgramsAreResolved }
+{
+    depths_are_an_order();
+    one_method();
+}
+
+/// Each body of a program of which no token is refused is resolved: its runs end as those of a method may.
+pub fn bodies_of_programs_are_resolved()
+    ensures { BodiesOfProgramsAreResolved }
+{
+    bodies_are_resolved();
+}
+
+/// Where the obligations of a program's cases are closed by sound steps, each run of each method keeps each of its cases, as JML says it
+/// (JML Reference Manual, 8.2, 9; The KeY Book, 8.3).
+pub fn every_closed_case_of_programs_is_kept()
+    ensures { EveryClosedCaseOfProgramsIsKept }
+{
+    bodies_are_resolved();
+    cases_are_kept_alike();
+    every_closed_case_is_kept();
+}

@@ -1,0 +1,4 @@
+pub mod Members
+pub mod Cases
+pub mod Programs
+pub mod Examples
