@@ -8,7 +8,7 @@ ghost use Rattle.jd_syntax.specs.Names.{var_view};
 ghost use Rattle.jd_written.specs.Written.{Text, write};
 ghost use Rattle.jd_tgrammar.specs.Spelling as spelling;
 ghost use Rattle.jd_print.specs.Printings.{Holds};
-ghost use Rattle.jd_print.specs.Writing as writing;
+ghost use Rattle.jd_print.specs.Writing.{write_many, write_one};
 
 use crate::names::NameTexts;
 use crate::printing::Printing;
@@ -54,13 +54,13 @@ impl Printing {
     // Writes an expression.
     #[cycle(code)]
     fn expr<N: NameTexts>(self, names: &N, expr: &CodeExpr) -> Printing
-        ensures { (t : Text) → Holds self t → Holds result (writing.write_expr (N.table names.now) t (expr_view expr.now)) }
+        ensures { (t : Text) → Holds self t → Holds result (write_one t (spelling.expr_text (N.table names.now) (expr_view expr.now))) }
     {
         let head = expr_word(expr);
         match expr {
             CodeExpr::IntLiteral(n) => self.integer(i128::from(*n)),
             CodeExpr::BoolLiteral(truth) => self.word(truth_word(*truth)),
-            CodeExpr::NullLiteral => self.word(head),
+            CodeExpr::NullLiteral => self.word(b"null"),
             CodeExpr::Variable(variable) => self.word(&variable.name),
             CodeExpr::Unary(_, a) | CodeExpr::LengthOf(a) => {
                 self.begin(head).expr(names, a).close()
@@ -109,7 +109,7 @@ impl Printing {
     // Writes expressions one after the other.
     #[cycle(code)]
     fn exprs<N: NameTexts>(self, names: &N, exprs: &[CodeExpr]) -> Printing
-        ensures { (t : Text) → Holds self t → Holds result (writing.write_exprs (N.table names.now) t (exprs_of (map expr_view exprs.now))) }
+        ensures { (t : Text) → Holds self t → Holds result (write_many t (spelling.exprs_text (N.table names.now) (exprs_of (map expr_view exprs.now)))) }
     {
         let mut out = self;
         for expr in exprs {
@@ -121,7 +121,7 @@ impl Printing {
     // Writes a statement.
     #[cycle(code)]
     fn stmt<N: NameTexts>(self, names: &N, stmt: &CodeStmt) -> Printing
-        ensures { (t : Text) → Holds self t → Holds result (writing.write_stmt (N.table names.now) t (stmt_view stmt.now)) }
+        ensures { (t : Text) → Holds self t → Holds result (write_one t (spelling.stmt_text (N.table names.now) (stmt_view stmt.now))) }
     {
         let out = self.begin(stmt_word(stmt));
         let out = match stmt {
@@ -161,7 +161,7 @@ impl Printing {
     // Writes statements one after the other.
     #[cycle(code)]
     fn stmts<N: NameTexts>(self, names: &N, stmts: &[CodeStmt]) -> Printing
-        ensures { (t : Text) → Holds self t → Holds result (writing.write_stmts (N.table names.now) t (stmts_of (map stmt_view stmts.now))) }
+        ensures { (t : Text) → Holds self t → Holds result (write_many t (spelling.stmts_text (N.table names.now) (stmts_of (map stmt_view stmts.now)))) }
     {
         let mut out = self;
         for stmt in stmts {
@@ -173,7 +173,7 @@ impl Printing {
     /// Writes statements in brackets.
     #[cycle(code)]
     pub(crate) fn code<N: NameTexts>(self, names: &N, code: &Code) -> Printing
-        ensures { (t : Text) → Holds self t → Holds result (writing.write_code (N.table names.now) t (code_view code.now)) }
+        ensures { (t : Text) → Holds self t → Holds result (write_one t (spelling.code_text (N.table names.now) (code_view code.now))) }
     {
         self.open().stmts(names, &code.stmts).close()
     }

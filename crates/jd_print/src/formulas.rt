@@ -4,9 +4,9 @@ ghost use Rattle.std.specs.Prelude.{◌≡◌, IfOk, map};
 ghost use Rattle.jd_bracketed.specs.Trees.{spell};
 ghost use Rattle.jd_term.specs.Formulas.{formula_view, pair_view};
 ghost use Rattle.jd_written.specs.Written.{Text, text_of};
-ghost use Rattle.jd_tgrammar.specs.Spelling.{formula_text};
+ghost use Rattle.jd_tgrammar.specs.Spelling.{formula_text, pairs_text};
 ghost use Rattle.jd_print.specs.Printings.{Holds};
-ghost use Rattle.jd_print.specs.Writing as writing;
+ghost use Rattle.jd_print.specs.Writing.{write_many, write_one};
 
 use crate::names::NameTexts;
 use crate::printing::Printing;
@@ -18,7 +18,7 @@ use std::alloc::Global;
 impl Printing {
     // Writes the pairs of an update.
     fn pairs<N: NameTexts>(self, names: &N, pairs: &[Elementary]) -> Printing
-        ensures { (t : Text) → Holds self t → Holds result (writing.write_pairs (N.table names.now) t (map pair_view pairs.now)) }
+        ensures { (t : Text) → Holds self t → Holds result (write_many t (pairs_text (N.table names.now) (map pair_view pairs.now))) }
     {
         let mut out = self;
         for pair in pairs {
@@ -34,11 +34,12 @@ impl Printing {
     /// Writes a formula.
     #[cycle(formula)]
     fn formula<N: NameTexts>(self, names: &N, formula: &Formula) -> Printing
-        ensures { (t : Text) → Holds self t → Holds result (writing.write_formula (N.table names.now) t (formula_view formula.now)) }
+        ensures { (t : Text) → Holds self t → Holds result (write_one t (formula_text (N.table names.now) (formula_view formula.now))) }
     {
         let head = formula_word(formula);
         match formula {
-            Formula::TrueFormula | Formula::FalseFormula => self.word(head),
+            Formula::TrueFormula => self.word(b"true"),
+            Formula::FalseFormula => self.word(b"false"),
             Formula::Not(a) => self.begin(head).formula(names, a).close(),
             Formula::And(a, b) | Formula::Or(a, b) | Formula::Implies(a, b) | Formula::Iff(a, b) =>
                 self.begin(head).formula(names, a).formula(names, b).close(),

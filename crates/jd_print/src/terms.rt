@@ -5,9 +5,9 @@ ghost use Rattle.jd_bracketed.specs.Trees.{spell};
 ghost use Rattle.jd_bracketed.specs.Tokens.{Word};
 ghost use Rattle.jd_term.specs.TermViews.{loc_view, term_view};
 ghost use Rattle.jd_written.specs.Written.{Text, text_of, write};
-ghost use Rattle.jd_tgrammar.specs.Spelling.{field_word, term_text};
+ghost use Rattle.jd_tgrammar.specs.Spelling.{field_word, loc_text, term_text};
 ghost use Rattle.jd_print.specs.Printings.{Holds};
-ghost use Rattle.jd_print.specs.Writing as writing;
+ghost use Rattle.jd_print.specs.Writing.{write_one};
 
 use crate::names::NameTexts;
 use crate::printing::Printing;
@@ -28,13 +28,14 @@ impl Printing {
     /// Writes a term.
     #[cycle(term)]
     pub(crate) fn term<N: NameTexts>(self, names: &N, term: &Term) -> Printing
-        ensures { (t : Text) → Holds self t → Holds result (writing.write_term (N.table names.now) t (term_view term.now)) }
+        ensures { (t : Text) → Holds self t → Holds result (write_one t (term_text (N.table names.now) (term_view term.now))) }
     {
         let head = term_word(term);
         match term {
             Term::Number(n) => self.integer(*n),
             Term::Boolean(truth) => self.word(truth_word(*truth)),
-            Term::NullTerm | Term::CreatedField => self.word(head),
+            Term::NullTerm => self.word(b"null"),
+            Term::CreatedField => self.word(b"created"),
             Term::ProgramVariable(variable) => self.word(&variable.name),
             Term::Constant(constant) => self.word(&constant.name),
             Term::Bound(k, _) => self.bound(*k),
@@ -72,11 +73,12 @@ impl Printing {
     /// Writes a location set.
     #[cycle(term)]
     pub(crate) fn loc<N: NameTexts>(self, names: &N, loc: &Loc) -> Printing
-        ensures { (t : Text) → Holds self t → Holds result (writing.write_loc (N.table names.now) t (loc_view loc.now)) }
+        ensures { (t : Text) → Holds self t → Holds result (write_one t (loc_text (N.table names.now) (loc_view loc.now))) }
     {
         let head = loc_word(loc);
         match loc {
-            Loc::NoLocations | Loc::AllLocations => self.word(head),
+            Loc::NoLocations => self.word(b"none"),
+            Loc::AllLocations => self.word(b"all"),
             Loc::ObjectFields(a) | Loc::ArrayElements(a) => {
                 self.begin(head).term(names, a).close()
             }

@@ -4,8 +4,9 @@ ghost use Rattle.std.specs.Prelude.{◌≡◌};
 ghost use Rattle.jd_syntax.specs.CodeViews.{expr_view, stmt_view};
 ghost use Rattle.jd_term.specs.Formulas.{formula_view};
 ghost use Rattle.jd_term.specs.TermViews.{loc_view, term_view};
+ghost use Rattle.jd_tgrammar.specs.Spelling as spelling;
 ghost use Rattle.jd_tgrammar.specs.Words as plain;
-ghost use Rattle.jd_print.specs.Heads as writing;
+ghost use Rattle.jd_print.specs.Writing.{first_word, no_names};
 
 use jd_base::Sort;
 use jd_syntax::{BinaryOp, CodeExpr, CodeStmt, UnaryOp};
@@ -87,9 +88,9 @@ fn binary_word(operation: BinaryOp) -> &'static [u8]
     }
 }
 
-/// The word of a term's form; none of a name or a literal, which is its own.
+/// The word that stands first in the brackets of a term; none of a word alone.
 pub(crate) fn term_word(term: &Term) -> &'static [u8]
-    ensures { result.now ≡ writing.term_word (term_view term.now) }
+    ensures { result.now ≡ first_word (spelling.term_text no_names (term_view term.now)) }
 {
     match term {
         Term::Number(_)
@@ -97,9 +98,9 @@ pub(crate) fn term_word(term: &Term) -> &'static [u8]
         | Term::ProgramVariable(_)
         | Term::Constant(_)
         | Term::Bound(_, _)
-        | Term::NamedField(_) => b"",
-        Term::NullTerm => b"null",
-        Term::CreatedField => b"created",
+        | Term::NamedField(_)
+        | Term::NullTerm
+        | Term::CreatedField => b"",
         Term::Arithmetic(operation, _, _) => arithmetic_word(*operation),
         Term::Negation(_) => b"neg",
         Term::Wrap(_) => b"wrap",
@@ -113,13 +114,12 @@ pub(crate) fn term_word(term: &Term) -> &'static [u8]
     }
 }
 
-/// The word of a location set's form.
+/// The same of a location set.
 pub(crate) fn loc_word(loc: &Loc) -> &'static [u8]
-    ensures { result.now ≡ writing.loc_word (loc_view loc.now) }
+    ensures { result.now ≡ first_word (spelling.loc_text no_names (loc_view loc.now)) }
 {
     match loc {
-        Loc::NoLocations => b"none",
-        Loc::AllLocations => b"all",
+        Loc::NoLocations | Loc::AllLocations => b"",
         Loc::Single(_, _) => b"loc",
         Loc::ObjectFields(_) => b"obj",
         Loc::ArrayElements(_) => b"arrall",
@@ -128,13 +128,12 @@ pub(crate) fn loc_word(loc: &Loc) -> &'static [u8]
     }
 }
 
-/// The word of a formula's form.
+/// The same of a formula.
 pub(crate) fn formula_word(formula: &Formula) -> &'static [u8]
-    ensures { result.now ≡ writing.formula_word (formula_view formula.now) }
+    ensures { result.now ≡ first_word (spelling.formula_text no_names (formula_view formula.now)) }
 {
     match formula {
-        Formula::TrueFormula => b"true",
-        Formula::FalseFormula => b"false",
+        Formula::TrueFormula | Formula::FalseFormula => b"",
         Formula::Not(_) => b"not",
         Formula::And(_, _) => b"and",
         Formula::Or(_, _) => b"or",
@@ -156,13 +155,15 @@ pub(crate) fn formula_word(formula: &Formula) -> &'static [u8]
     }
 }
 
-/// The word of an expression's form; none of a variable or a literal, which is its own.
+/// The same of an expression.
 pub(crate) fn expr_word(expr: &CodeExpr) -> &'static [u8]
-    ensures { result.now ≡ writing.expr_word (expr_view expr.now) }
+    ensures { result.now ≡ first_word (spelling.expr_text no_names (expr_view expr.now)) }
 {
     match expr {
-        CodeExpr::IntLiteral(_) | CodeExpr::BoolLiteral(_) | CodeExpr::Variable(_) => b"",
-        CodeExpr::NullLiteral => b"null",
+        CodeExpr::IntLiteral(_)
+        | CodeExpr::BoolLiteral(_)
+        | CodeExpr::NullLiteral
+        | CodeExpr::Variable(_) => b"",
         CodeExpr::Unary(operation, _) => unary_word(*operation),
         CodeExpr::Binary(operation, _, _) => binary_word(*operation),
         CodeExpr::AndAlso(_, _) => b"and",
@@ -180,9 +181,9 @@ pub(crate) fn expr_word(expr: &CodeExpr) -> &'static [u8]
     }
 }
 
-/// The word of a statement's form.
+/// The same of a statement.
 pub(crate) fn stmt_word(stmt: &CodeStmt) -> &'static [u8]
-    ensures { result.now ≡ writing.stmt_word (stmt_view stmt.now) }
+    ensures { result.now ≡ first_word (spelling.stmt_text no_names (stmt_view stmt.now)) }
 {
     match stmt {
         CodeStmt::Set(_, _) => b"set",

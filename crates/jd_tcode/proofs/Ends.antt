@@ -1,12 +1,12 @@
 -- How many parts stand behind a head.
-use Rattle.std.proofs.Common.{◌≡◌, ◌≢◌, ◌<◌, ◌≤◌, List, [], ◌∷◌, length, map, Option, Some, None, Result, refl, arith}
-use Rattle.std.specs.Option.{option_or}
+use Rattle.std.proofs.Common.{◌≡◌, ◌≢◌, ◌<◌, ◌≤◌, List, [], ◌∷◌, length, map, Option, Some, None, refl, arith}
 use Rattle.jd_syntax.specs.declared.sx.Sx.{Sx}
 use Rattle.jd_syntax.specs.Sxs.{bracketed_list, sx_view}
 use Rattle.jd_tgrammar.specs.NameTables.{NameTable}
-use Rattle.jd_tforms.specs.Reading.{Read, with_none, with_one, with_two, behind_one, behind_two, reads}
+use Rattle.jd_tforms.specs.Reading.{Read, with_two, behind_one, behind_two, read, reads, stmt_of}
+use Rattle.jd_tforms.specs.declared.heads.StmtHead.{StmtHead}
+use Rattle.jd_tforms.specs.declared.heads.StmtHead.TheVariants as stmts
 use Rattle.jd_tcode.specs.Behind.{rest_of}
-use Rattle.jd_tcode.specs.Pairing.{Gives}
 
 -- ---- fewer than a call has
 
@@ -23,37 +23,26 @@ no_behind_two names f (h ∷ a ∷ b ∷ xs) n = absurd (omega (arith, n))
 
 pub ruleset short = (no_behind_one, no_behind_two)
 
--- ---- nothing
+-- ---- a head alone
 
-pub nothing_behind : {T : Type 0} (names : NameTable) (t : Option T) (xs : List Sx) → length xs < 2 → t ≡ with_none t (rest_of (reads names (bracketed_list (map sx_view xs))))
-nothing_behind names t [] n = refl
-nothing_behind names t (h ∷ []) n = refl
-nothing_behind names t (h ∷ a ∷ xs) n = absurd (omega (arith, n))
+pub alone_behind : {T : Type 0} (names : NameTable) (go : List Read → Option T) (xs : List Sx) (o : Option T) → length xs < 2 → o ≡ go [] → o ≡ go (rest_of (reads names (bracketed_list (map sx_view xs))))
+alone_behind names go [] o n e = e
+alone_behind names go (h ∷ []) o n e = e
+alone_behind names go (h ∷ a ∷ xs) o n e = absurd (omega (arith, n))
 
-pub something_behind : {T : Type 0} (names : NameTable) (t : Option T) (xs : List Sx) → 2 ≤ length xs → None ≡ with_none t (rest_of (reads names (bracketed_list (map sx_view xs))))
-something_behind names t [] n = absurd (omega (arith, n))
-something_behind names t (h ∷ []) n = absurd (omega (arith, n))
-something_behind names t (h ∷ a ∷ xs) n = refl
+-- ---- more than a statement has
 
--- ---- nothing or one
+no_four : (names : NameTable) (h : StmtHead) (a b c d : Read) (rs : List Read) → None ≡ stmt_of names (Some h) (a ∷ b ∷ c ∷ d ∷ rs)
+no_four names stmts.Set a b c d rs = refl
+no_four names h a b c d rs = refl
 
-pub nothing_returned : {T : Type 0} (names : NameTable) (f : Read → Option T) (t : Option T) (xs : List Sx) → length xs < 2 →
-    t ≡ option_or (with_one f (rest_of (reads names (bracketed_list (map sx_view xs))))) (with_none t (rest_of (reads names (bracketed_list (map sx_view xs)))))
-nothing_returned names f t [] n = refl
-nothing_returned names f t (h ∷ []) n = refl
-nothing_returned names f t (h ∷ a ∷ xs) n = absurd (omega (arith, n))
-
-pub no_return : {T : Type 0} (names : NameTable) (f : Read → Option T) (t : Option T) (xs : List Sx) → 2 ≤ length xs → length xs ≢ 2 →
-    None ≡ option_or (with_one f (rest_of (reads names (bracketed_list (map sx_view xs))))) (with_none t (rest_of (reads names (bracketed_list (map sx_view xs)))))
-no_return names f t [] n m = absurd (omega (arith, n))
-no_return names f t (h ∷ []) n m = absurd (omega (arith, n))
-no_return names f t (h ∷ a ∷ []) n m = absurd (m refl)
-no_return names f t (h ∷ a ∷ b ∷ xs) n m = refl
-
--- a value
-pub or_none : {A T E : Type 0} (view : A → T) (made : Result (Option A) E) (p : Option T) → Gives view made p → Gives view made (option_or p None)
-or_none view made None given = given
-or_none view made (Some t) given = given
+pub more_than_three : (names : NameTable) (h : StmtHead) (xs : List Sx) → 5 ≤ length xs → None ≡ stmt_of names (Some h) (rest_of (reads names (bracketed_list (map sx_view xs))))
+more_than_three names h [] n = absurd (omega (arith, n))
+more_than_three names h (x ∷ []) n = absurd (omega (arith, n))
+more_than_three names h (x ∷ a ∷ []) n = absurd (omega (arith, n))
+more_than_three names h (x ∷ a ∷ b ∷ []) n = absurd (omega (arith, n))
+more_than_three names h (x ∷ a ∷ b ∷ c ∷ []) n = absurd (omega (arith, n))
+more_than_three names h (x ∷ a ∷ b ∷ c ∷ d ∷ xs) n = no_four names h (read names (sx_view a)) (read names (sx_view b)) (read names (sx_view c)) (read names (sx_view d)) (reads names (bracketed_list (map sx_view xs)))
 
 -- ---- two parts, none of which is a head
 
@@ -64,6 +53,3 @@ no_two_parts names f (a ∷ b ∷ []) n = absurd (n refl)
 no_two_parts names f (a ∷ b ∷ c ∷ xs) n = refl
 
 pub ruleset not_two = no_two_parts
-
--- what ends is nothing else
-pub ruleset ends = (no_return, something_behind)

@@ -4,6 +4,6 @@ pub mod Counts
 pub mod Ends
 pub mod Falling
 pub mod Growing
-pub mod Headed
+pub mod Made
 pub mod Parted
 pub mod Placed

@@ -1,4 +1,4 @@
--- What was made of the parts behind a head is what their list is there.
+-- The same where parts may follow, and of an array.
 use Rattle.std.proofs.Common.{◌≡◌, ◌≤◌, ℕ, true, List, [], ◌∷◌, length, get_or, map, drop, Option, Some, None, Result, cond, codes, sym, subst, arith}
 use Rattle.std.specs.Option.{option_and_then}
 use Rattle.std.specs.Str.{bytes_eq}
@@ -7,76 +7,46 @@ use Rattle.jd_syntax.specs.Codes.{Expr}
 use Rattle.jd_syntax.specs.Sxs.{bracketed_list, sx_view}
 use Rattle.jd_tgrammar.specs.NameTables.{NameTable}
 use Rattle.jd_tforms.specs.Reading.{Read, array_of, read, reads}
-use Rattle.jd_tcode.specs.Behind.{rest_of}
 use Rattle.jd_tcode.specs.Pairing.{Gives}
+use Rattle.jd_tcode.proofs.Parted.{behind_head}
 
 -- the parts of an expression
 abbrev pub parts_read : NameTable → List Sx → List Read
 parts_read names xs = reads names (bracketed_list (map sx_view xs))
 
-module _ {A T E H : Type 0} (view : A → T) (names : NameTable) (go : Option H → List Read → Option T) (made : Result (Option A) E) (xs : List Sx) (head h : H) (is_head : head ≡ h) where
-  abbrev Made : H → List Read → Type 0
-  Made k rs = Gives view made (go (Some k) rs)
-
-  -- from the head that was matched to the head that it is
-  back : (rs : List Read) → Made h rs → Made head rs
-  back rs = subst (λ k. Made k rs) (sym is_head)
+module _ {A T E : Type 0} (view : A → T) (names : NameTable) (go : List Read → Option T) (made : Result (Option A) E) (xs : List Sx) where
+  abbrev Made : List Read → Type 0
+  Made rs = Gives view made (go rs)
 
   abbrev first_of : Sx → List Read → List Read
   first_of a rs = read names (sx_view a) ∷ rs
 
-  pub one_part : (a : Sx) → length xs ≡ 2 → a ≡ get_or xs 1 a → Made h (first_of a []) → Made head (rest_of (parts_read names xs))
-  one_part a n ea given = back _ (by xs n ea)
+  pub one_and_more : (a : Sx) (tail : List Sx) (o : Option T) → 2 ≤ length xs → a ≡ get_or xs 1 a → tail ≡ drop 2 xs → o ≡ go (first_of a (parts_read names tail)) → Gives view made o → Made (behind_head names xs)
+  one_and_more a tail o n ea et same given = by xs n ea et
     where
-      by : (ys : List Sx) → length ys ≡ 2 → a ≡ get_or ys 1 a → Made h (rest_of (parts_read names ys))
-      by [] m e = absurd (omega (arith, m))
-      by (y ∷ []) m e = absurd (omega (arith, m))
-      by (y ∷ p ∷ []) m e = subst (λ z. Made h (first_of z [])) e given
-      by (y ∷ p ∷ q ∷ ys) m e = absurd (omega (arith, m))
+      here : Made (first_of a (parts_read names tail))
+      here = subst (λ z. Gives view made z) same given
 
-  pub two_parts : (a b : Sx) → length xs ≡ 3 → a ≡ get_or xs 1 a → b ≡ get_or xs 2 b → Made h (first_of a (first_of b [])) → Made head (rest_of (parts_read names xs))
-  two_parts a b n ea eb given = back _ (by xs n ea eb)
-    where
-      by : (ys : List Sx) → length ys ≡ 3 → a ≡ get_or ys 1 a → b ≡ get_or ys 2 b → Made h (rest_of (parts_read names ys))
+      by : (ys : List Sx) → 2 ≤ length ys → a ≡ get_or ys 1 a → tail ≡ drop 2 ys → Made (behind_head names ys)
       by [] m e f = absurd (omega (arith, m))
       by (y ∷ []) m e f = absurd (omega (arith, m))
-      by (y ∷ p ∷ []) m e f = absurd (omega (arith, m))
-      by (y ∷ p ∷ q ∷ []) m e f = subst (λ z. Made h (first_of p (first_of z []))) f (subst (λ z. Made h (first_of z (first_of b []))) e given)
-      by (y ∷ p ∷ q ∷ r ∷ ys) m e f = absurd (omega (arith, m))
+      by (y ∷ p ∷ ys) m e f = subst (λ zs. Made (first_of p (parts_read names zs))) f (subst (λ z. Made (first_of z (parts_read names tail))) e here)
 
-  pub three_parts : (a b c : Sx) → length xs ≡ 4 → a ≡ get_or xs 1 a → b ≡ get_or xs 2 b → c ≡ get_or xs 3 c → Made h (first_of a (first_of b (first_of c []))) → Made head (rest_of (parts_read names xs))
-  three_parts a b c n ea eb ec given = back _ (by xs n ea eb ec)
+  pub two_and_more : (a b : Sx) (tail : List Sx) (o : Option T) → 3 ≤ length xs → a ≡ get_or xs 1 a → b ≡ get_or xs 2 b → tail ≡ drop 3 xs → o ≡ go (first_of a (first_of b (parts_read names tail))) → Gives view made o →
+      Made (behind_head names xs)
+  two_and_more a b tail o n ea eb et same given = by xs n ea eb et
     where
-      by : (ys : List Sx) → length ys ≡ 4 → a ≡ get_or ys 1 a → b ≡ get_or ys 2 b → c ≡ get_or ys 3 c → Made h (rest_of (parts_read names ys))
-      by [] m e f g = absurd (omega (arith, m))
-      by (y ∷ []) m e f g = absurd (omega (arith, m))
-      by (y ∷ p ∷ []) m e f g = absurd (omega (arith, m))
-      by (y ∷ p ∷ q ∷ []) m e f g = absurd (omega (arith, m))
-      by (y ∷ p ∷ q ∷ r ∷ []) m e f g =
-          subst (λ z. Made h (first_of p (first_of q (first_of z [])))) g
-          (subst (λ z. Made h (first_of p (first_of z (first_of c [])))) f
-          (subst (λ z. Made h (first_of z (first_of b (first_of c [])))) e given))
-      by (y ∷ p ∷ q ∷ r ∷ s ∷ ys) m e f g = absurd (omega (arith, m))
+      here : Made (first_of a (first_of b (parts_read names tail)))
+      here = subst (λ z. Gives view made z) same given
 
-  pub one_and_more : (a : Sx) (tail : List Sx) → 2 ≤ length xs → a ≡ get_or xs 1 a → tail ≡ drop 2 xs → Made h (first_of a (parts_read names tail)) → Made head (rest_of (parts_read names xs))
-  one_and_more a tail n ea et given = back _ (by xs n ea et)
-    where
-      by : (ys : List Sx) → 2 ≤ length ys → a ≡ get_or ys 1 a → tail ≡ drop 2 ys → Made h (rest_of (parts_read names ys))
-      by [] m e f = absurd (omega (arith, m))
-      by (y ∷ []) m e f = absurd (omega (arith, m))
-      by (y ∷ p ∷ ys) m e f = subst (λ zs. Made h (first_of p (parts_read names zs))) f (subst (λ z. Made h (first_of z (parts_read names tail))) e given)
-
-  pub two_and_more : (a b : Sx) (tail : List Sx) → 3 ≤ length xs → a ≡ get_or xs 1 a → b ≡ get_or xs 2 b → tail ≡ drop 3 xs → Made h (first_of a (first_of b (parts_read names tail))) → Made head (rest_of (parts_read names xs))
-  two_and_more a b tail n ea eb et given = back _ (by xs n ea eb et)
-    where
-      by : (ys : List Sx) → 3 ≤ length ys → a ≡ get_or ys 1 a → b ≡ get_or ys 2 b → tail ≡ drop 3 ys → Made h (rest_of (parts_read names ys))
+      by : (ys : List Sx) → 3 ≤ length ys → a ≡ get_or ys 1 a → b ≡ get_or ys 2 b → tail ≡ drop 3 ys → Made (behind_head names ys)
       by [] m e f g = absurd (omega (arith, m))
       by (y ∷ []) m e f g = absurd (omega (arith, m))
       by (y ∷ p ∷ []) m e f g = absurd (omega (arith, m))
       by (y ∷ p ∷ q ∷ ys) m e f g =
-          subst (λ zs. Made h (first_of p (first_of q (parts_read names zs)))) g
-          (subst (λ z. Made h (first_of p (first_of z (parts_read names tail)))) f
-          (subst (λ z. Made h (first_of z (first_of b (parts_read names tail)))) e given))
+          subst (λ zs. Made (first_of p (first_of q (parts_read names zs)))) g
+          (subst (λ z. Made (first_of p (first_of z (parts_read names tail)))) f
+          (subst (λ z. Made (first_of z (first_of b (parts_read names tail)))) e here))
 
 -- `(arr X)`
 pub array_read : {A E : Type 0} (view : A → Expr) (names : NameTable) (made : Result (Option A) E) (xs : List Sx) (head a : Sx) (w : List ℕ) →

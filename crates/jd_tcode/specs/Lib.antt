@@ -1,3 +1,4 @@
 pub mod Behind
+pub mod Makers
 pub mod Pairing
 pub mod Words

@@ -1,44 +1,65 @@
 //! Statements, made of what was read of their parts.
 
-ghost use Rattle.std.specs.Prelude.{◌≡◌, ℕ, Option, option_map};
+ghost use Rattle.std.specs.Prelude.{◌≡◌, ℕ, [], Option, Some, option_map};
 ghost use Rattle.std.specs.Option.{option_or};
 ghost use Rattle.jd_syntax.specs.CodeViews.{code_view, expr_view, stmt_view};
 ghost use Rattle.jd_syntax.specs.Codes as trees;
 ghost use Rattle.jd_syntax.specs.Codes.{Expr, PlainCode};
 ghost use Rattle.jd_syntax.specs.Names.{Name, var_view};
+ghost use Rattle.jd_tgrammar.specs.NameTables.{NameTable};
 ghost use Rattle.jd_tforms.specs.Reading as plain;
 ghost use Rattle.jd_tcode.specs.Pairing.{Gives};
+ghost use Rattle.jd_tcode.specs.Makers as makers;
 
 use crate::parts::{Part, both_there, three_there};
 use jd_base::{ClassId, FieldId};
 use jd_syntax::{Code, CodeExpr, CodeStmt, VarId};
+use jd_tforms::StmtHead;
 
-// An assignment to a variable.
-pub(crate) fn make_set(variable: Part<VarId>, a: Part<CodeExpr>) -> Part<CodeStmt>
-    ensures { (p : Option Name) (q : Option Expr) → Gives var_view variable p → Gives expr_view a q → Gives stmt_view result (plain.both trees.Set p q) }
+// `(eval a)` and the like; of a head that has not one expression, `(return a)`.
+pub(crate) fn one_expr(head: StmtHead, a: Part<CodeExpr>) -> Part<CodeStmt>
+    ensures { (p : Option Expr) → Gives expr_view a p → Gives stmt_view result (option_map (makers.one_expr head) p) }
+{
+    match a? {
+        None => Ok(None),
+        Some(a) => match head {
+            StmtHead::Evaluate => Ok(Some(CodeStmt::Evaluate(a))),
+            StmtHead::Throw => Ok(Some(CodeStmt::Throw(a))),
+            StmtHead::ThrowUnchecked => Ok(Some(CodeStmt::ThrowUnchecked(a))),
+            _ => Ok(Some(CodeStmt::Return(a))),
+        },
+    }
+}
+
+// `(set x a)`; of another head, `(allocarr x a)`.
+pub(crate) fn assigned(head: StmtHead, variable: Part<VarId>, a: Part<CodeExpr>) -> Part<CodeStmt>
+    ensures { (p : Option Name) (q : Option Expr) → Gives var_view variable p → Gives expr_view a q → Gives stmt_view result (plain.both (makers.assigned head) p q) }
 {
     match both_there(variable, a)? {
         None => Ok(None),
-        Some((variable, a)) => Ok(Some(CodeStmt::Set(variable, a))),
+        Some((variable, a)) => match head {
+            StmtHead::Set => Ok(Some(CodeStmt::Set(variable, a))),
+            _ => Ok(Some(CodeStmt::NewArray(variable, a))),
+        },
     }
 }
 
 // An assignment to a field.
-pub(crate) fn make_put(
-    object: Part<CodeExpr>,
-    field: Part<FieldId>,
+pub(crate) fn write_field(
     a: Part<CodeExpr>,
+    field: Option<FieldId>,
+    b: Part<CodeExpr>,
 ) -> Part<CodeStmt>
-    ensures { (p : Option Expr) (q : Option ℕ) (r : Option Expr) → Gives expr_view object p → Gives (λ f. f.0) field q → Gives expr_view a r → Gives stmt_view result (plain.three trees.WriteField p q r) }
+    ensures { (p : Option Expr) (q : Option ℕ) (r : Option Expr) → Gives expr_view a p → option_map (λ f. f.0) field ≡ q → Gives expr_view b r → Gives stmt_view result (plain.three trees.WriteField p q r) }
 {
-    match three_there(object, field, a)? {
+    match three_there(a, Ok(field), b)? {
         None => Ok(None),
-        Some((object, field, a)) => Ok(Some(CodeStmt::WriteField(object, field, a))),
+        Some((a, field, b)) => Ok(Some(CodeStmt::WriteField(a, field, b))),
     }
 }
 
 // An assignment to an element.
-pub(crate) fn make_put_element(
+pub(crate) fn write_element(
     a: Part<CodeExpr>,
     b: Part<CodeExpr>,
     c: Part<CodeExpr>,
@@ -51,42 +72,28 @@ pub(crate) fn make_put_element(
     }
 }
 
-// An expression whose value is dropped.
-pub(crate) fn make_evaluate(a: Part<CodeExpr>) -> Part<CodeStmt>
-    ensures { (p : Option Expr) → Gives expr_view a p → Gives stmt_view result (option_map trees.Evaluate p) }
-{
-    match a? {
-        None => Ok(None),
-        Some(a) => Ok(Some(CodeStmt::Evaluate(a))),
-    }
-}
-
 // A choice.
-pub(crate) fn make_if(test: Part<CodeExpr>, then: Part<Code>, other: Part<Code>) -> Part<CodeStmt>
-    ensures { (p : Option Expr) (q : Option PlainCode) (r : Option PlainCode) → Gives expr_view test p → Gives code_view then q → Gives code_view other r → Gives stmt_view result (plain.three trees.If p q r) }
+pub(crate) fn if_then(a: Part<CodeExpr>, then: Part<Code>, other: Part<Code>) -> Part<CodeStmt>
+    ensures { (p : Option Expr) (q : Option PlainCode) (r : Option PlainCode) → Gives expr_view a p → Gives code_view then q → Gives code_view other r → Gives stmt_view result (plain.three trees.If p q r) }
 {
-    match three_there(test, then, other)? {
+    match three_there(a, then, other)? {
         None => Ok(None),
-        Some((test, then, other)) => Ok(Some(CodeStmt::If(test, then, other))),
+        Some((a, then, other)) => Ok(Some(CodeStmt::If(a, then, other))),
     }
 }
 
 // A loop.
-pub(crate) fn make_while(
-    number: Option<u32>,
-    test: Part<CodeExpr>,
-    body: Part<Code>,
-) -> Part<CodeStmt>
-    ensures { (p : Option ℕ) (q : Option Expr) (r : Option PlainCode) → number ≡ p → Gives expr_view test q → Gives code_view body r → Gives stmt_view result (plain.three trees.While p q r) }
+pub(crate) fn while_loop(number: Option<u32>, a: Part<CodeExpr>, body: Part<Code>) -> Part<CodeStmt>
+    ensures { (p : Option ℕ) (q : Option Expr) (r : Option PlainCode) → number ≡ p → Gives expr_view a q → Gives code_view body r → Gives stmt_view result (plain.three trees.While p q r) }
 {
-    match three_there(Ok(number), test, body)? {
+    match three_there(Ok(number), a, body)? {
         None => Ok(None),
-        Some((number, test, body)) => Ok(Some(CodeStmt::While(number, test, body))),
+        Some((number, a, body)) => Ok(Some(CodeStmt::While(number, a, body))),
     }
 }
 
 // A block with a label.
-pub(crate) fn make_block(label: Option<u32>, body: Part<Code>) -> Part<CodeStmt>
+pub(crate) fn block(label: Option<u32>, body: Part<Code>) -> Part<CodeStmt>
     ensures { (p : Option ℕ) (q : Option PlainCode) → label ≡ p → Gives code_view body q → Gives stmt_view result (plain.both trees.Block p q) }
 {
     match both_there(Ok(label), body)? {
@@ -96,11 +103,7 @@ pub(crate) fn make_block(label: Option<u32>, body: Part<Code>) -> Part<CodeStmt>
 }
 
 // A block that catches what is thrown.
-pub(crate) fn make_catch(
-    body: Part<Code>,
-    variable: Part<VarId>,
-    handler: Part<Code>,
-) -> Part<CodeStmt>
+pub(crate) fn catch(body: Part<Code>, variable: Part<VarId>, handler: Part<Code>) -> Part<CodeStmt>
     ensures { (p : Option PlainCode) (q : Option Name) (r : Option PlainCode) → Gives code_view body p → Gives var_view variable q → Gives code_view handler r → Gives stmt_view result (plain.three trees.Catch p q r) }
 {
     match three_there(body, variable, handler)? {
@@ -110,7 +113,7 @@ pub(crate) fn make_catch(
 }
 
 // A block with statements that are always run.
-pub(crate) fn make_finally(body: Part<Code>, last: Part<Code>) -> Part<CodeStmt>
+pub(crate) fn finally(body: Part<Code>, last: Part<Code>) -> Part<CodeStmt>
     ensures { (p : Option PlainCode) (q : Option PlainCode) → Gives code_view body p → Gives code_view last q → Gives stmt_view result (plain.both trees.Finally p q) }
 {
     match both_there(body, last)? {
@@ -119,38 +122,8 @@ pub(crate) fn make_finally(body: Part<Code>, last: Part<Code>) -> Part<CodeStmt>
     }
 }
 
-// An exception that is thrown.
-pub(crate) fn make_throw(a: Part<CodeExpr>) -> Part<CodeStmt>
-    ensures { (p : Option Expr) → Gives expr_view a p → Gives stmt_view result (option_map trees.Throw p) }
-{
-    match a? {
-        None => Ok(None),
-        Some(a) => Ok(Some(CodeStmt::Throw(a))),
-    }
-}
-
-// The same without a test for null.
-pub(crate) fn make_throw_unchecked(a: Part<CodeExpr>) -> Part<CodeStmt>
-    ensures { (p : Option Expr) → Gives expr_view a p → Gives stmt_view result (option_map trees.ThrowUnchecked p) }
-{
-    match a? {
-        None => Ok(None),
-        Some(a) => Ok(Some(CodeStmt::ThrowUnchecked(a))),
-    }
-}
-
-// The end of a method, with its value.
-pub(crate) fn make_return(a: Part<CodeExpr>) -> Part<CodeStmt>
-    ensures { (p : Option Expr) → Gives expr_view a p → Gives stmt_view result (option_map trees.Return p) }
-{
-    match a? {
-        None => Ok(None),
-        Some(a) => Ok(Some(CodeStmt::Return(a))),
-    }
-}
-
 // The body of a method.
-pub(crate) fn make_frame(variable: Part<Option<VarId>>, body: Part<Code>) -> Part<CodeStmt>
+pub(crate) fn frame(variable: Part<Option<VarId>>, body: Part<Code>) -> Part<CodeStmt>
     ensures { (p : Option (Option Name)) (q : Option PlainCode) → Gives (option_map var_view) variable p → Gives code_view body q → Gives stmt_view result (plain.both trees.Frame p q) }
 {
     match both_there(variable, body)? {
@@ -160,51 +133,41 @@ pub(crate) fn make_frame(variable: Part<Option<VarId>>, body: Part<Code>) -> Par
 }
 
 // An object that is allocated.
-fn make_object(variable: Part<VarId>, class: Part<ClassId>) -> Part<CodeStmt>
-    ensures { (p : Option Name) (q : Option ℕ) → Gives var_view variable p → Gives (λ c. c.0) class q → Gives stmt_view result (plain.both trees.AllocObject p q) }
+pub(crate) fn object(variable: Part<VarId>, class: Option<ClassId>) -> Part<CodeStmt>
+    ensures { (p : Option Name) (q : Option ℕ) → Gives var_view variable p → option_map (λ c. c.0) class ≡ q → Gives stmt_view result (plain.both trees.AllocObject p q) }
 {
-    match both_there(variable, class)? {
+    match both_there(variable, Ok(class))? {
         None => Ok(None),
         Some((variable, class)) => Ok(Some(CodeStmt::AllocObject(variable, class))),
     }
 }
 
 // An array that is allocated.
-fn make_array(variable: Part<VarId>, length: Part<CodeExpr>) -> Part<CodeStmt>
-    ensures { (p : Option Name) (q : Option Expr) → Gives var_view variable p → Gives expr_view length q → Gives stmt_view result (plain.both trees.AllocArray p q) }
-{
-    match both_there(variable, length)? {
-        None => Ok(None),
-        Some((variable, length)) => Ok(Some(CodeStmt::AllocArray(variable, length))),
-    }
-}
-
-// An array whose length is tested.
-pub(crate) fn make_new_array(variable: Part<VarId>, a: Part<CodeExpr>) -> Part<CodeStmt>
-    ensures { (p : Option Name) (q : Option Expr) → Gives var_view variable p → Gives expr_view a q → Gives stmt_view result (plain.both trees.NewArray p q) }
+pub(crate) fn array(variable: Part<VarId>, a: Part<CodeExpr>) -> Part<CodeStmt>
+    ensures { (p : Option Name) (q : Option Expr) → Gives var_view variable p → Gives expr_view a q → Gives stmt_view result (plain.both trees.AllocArray p q) }
 {
     match both_there(variable, a)? {
         None => Ok(None),
-        Some((variable, a)) => Ok(Some(CodeStmt::NewArray(variable, a))),
+        Some((variable, a)) => Ok(Some(CodeStmt::AllocArray(variable, a))),
     }
 }
 
 // An object or an array that is allocated.
-pub(crate) fn make_alloc(
+pub(crate) fn allocated(
     variable: Part<VarId>,
     class: Option<ClassId>,
-    length: Part<CodeExpr>,
+    a: Part<CodeExpr>,
 ) -> Part<CodeStmt>
-    ensures { (p : Option Name) (q : Option ℕ) (r : Option Expr) → Gives var_view variable p → option_map (λ c. c.0) class ≡ q → Gives expr_view length r → Gives stmt_view result (option_or (plain.both trees.AllocObject p q) (plain.both trees.AllocArray p r)) }
+    ensures { (p : Option Name) (q : Option ℕ) (r : Option Expr) → Gives var_view variable p → option_map (λ c. c.0) class ≡ q → Gives expr_view a r → Gives stmt_view result (option_or (plain.both trees.AllocObject p q) (plain.both trees.AllocArray p r)) }
 {
     match class {
-        Some(class) => make_object(variable, Ok(Some(class))),
-        None => make_array(variable, length),
+        Some(class) => object(variable, Some(class)),
+        None => array(variable, a),
     }
 }
 
 // The end of a block.
-pub(crate) fn make_break(label: Option<u32>) -> Part<CodeStmt>
+pub(crate) fn break_of(label: Option<u32>) -> Part<CodeStmt>
     ensures { (p : Option ℕ) → label ≡ p → Gives stmt_view result (option_map trees.Break p) }
 {
     match label {
@@ -214,25 +177,22 @@ pub(crate) fn make_break(label: Option<u32>) -> Part<CodeStmt>
 }
 
 // An exception of a class that is made and thrown.
-pub(crate) fn make_raise(class: Part<ClassId>) -> Part<CodeStmt>
-    ensures { (p : Option ℕ) → Gives (λ c. c.0) class p → Gives stmt_view result (option_map trees.Raise p) }
+pub(crate) fn raised(class: Option<ClassId>) -> Part<CodeStmt>
+    ensures { (p : Option ℕ) → option_map (λ c. c.0) class ≡ p → Gives stmt_view result (option_map trees.Raise p) }
 {
-    match class? {
+    match class {
         None => Ok(None),
         Some(class) => Ok(Some(CodeStmt::Raise(class))),
     }
 }
 
-// The end of a method that has no value.
-pub(crate) fn make_return_void() -> CodeStmt
-    ensures { stmt_view result ≡ trees.ReturnVoid }
+// `(return)` and `(stop)`, which are a word alone.
+pub(crate) fn alone(head: StmtHead) -> Option<CodeStmt>
+    ensures { (names : NameTable) → option_map stmt_view result ≡ plain.stmt_of names (Some head) [] }
 {
-    CodeStmt::ReturnVoid
-}
-
-// The end of a run.
-pub(crate) fn make_stop() -> CodeStmt
-    ensures { stmt_view result ≡ trees.Stop }
-{
-    CodeStmt::Stop
+    match head {
+        StmtHead::Return => Some(CodeStmt::ReturnVoid),
+        StmtHead::Stop => Some(CodeStmt::Stop),
+        _ => None,
+    }
 }

@@ -96,11 +96,7 @@ fn formula_behind<N: NameMeanings>(
             _ => Ok(None),
         },
         FormulaHead::Modal(modality) => match parts {
-            [_, code, a] => modal(
-                modality,
-                read_code(at.alloc, at.names, code),
-                read_boxed(at, a),
-            ),
+            [_, code, a] => modal(modality, read_code(at, code), read_boxed(at, a)),
             _ => Ok(None),
         },
         FormulaHead::Equal

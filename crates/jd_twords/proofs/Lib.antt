@@ -1,3 +1,4 @@
+pub mod Numbered
 pub mod Numbers
 pub mod Parts
 pub mod Tables

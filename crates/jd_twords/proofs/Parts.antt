@@ -1,5 +1,5 @@
 -- The parts of what stands in brackets, one after the other.
-use Rattle.std.proofs.Common.{◌≡◌, ℕ, zero, suc, ◌+◌, ◌<◌, ◌≤◌, List, [], ◌∷◌, length, map, drop, get_or, slice_index_or, Bool, true, false, ◌&&◌, Option, Some, None, refl, sym, ap, ◌∙◌, arith}
+use Rattle.std.proofs.Common.{◌≡◌, ◌≢◌, ℕ, zero, suc, ◌+◌, ◌-◌, ◌<◌, ◌≤◌, List, [], ◌∷◌, length, map, drop, get_or, slice_index_or, Bool, true, false, ◌&&◌, Option, Some, None, refl, sym, ap, ◌∙◌, arith}
 use Rattle.std.proofs.lemmas.List.{get_or-map, length-map}
 use Rattle.jd_syntax.specs.declared.sx.Sx.{Sx}
 use Rattle.jd_syntax.specs.Sxs.{Bracketed, bracketed_list, sx_view}
@@ -17,6 +17,12 @@ pub past : (xs : List Place) (i : ℕ) (rest : Option plain.Place) → length xs
 past [] i rest le = refl
 past (x ∷ xs) zero rest le = absurd (omega arith)
 past (x ∷ xs) (suc i) rest le = past xs i rest (omega arith)
+
+-- ---- behind a word
+
+pub behind_word : (w : List ℕ) (ps : List plain.Place) (i : ℕ) (rest : Option plain.Place) → i ≢ 0 → place_at ps (i - 1) rest ≡ place_at (plain.WordPlace w ∷ ps) i rest
+behind_word w ps zero rest ne = absurd (ne refl)
+behind_word w ps (suc i) rest ne = let one_less : suc i - 1 ≡ i = omega arith in ap (λ k. place_at ps k rest) one_less
 
 -- ---- parts
 
@@ -82,9 +88,6 @@ pub part_passes : (xs : List Bracketed) (ps : List plain.Place) (rest : Option p
     get_or xs i d ≡ x → true ≡ has_form x p → all ≡ from xs ps rest i → all ≡ from xs ps rest (i + 1)
 part_passes xs ps rest i x d p all lt e at passes so_far =
     so_far ∙ (part_is xs ps rest i d p lt e ∙ (ap (λ y. has_form y p && from xs ps rest (suc i)) at ∙ (ap (λ b. b && from xs ps rest (suc i)) (sym passes) ∙ next xs ps rest i)))
-
-pub shorter : {A B C D : Type 0} (f : A → B) (g : C → D) (xs : List A) (ps : List C) → length xs < length ps → length (map f xs) < length (map g ps)
-shorter f g xs ps lt = omega (arith, lt, length-map xs f, length-map ps g)
 
 -- ---- the same for the code's items
 

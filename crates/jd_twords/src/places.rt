@@ -37,11 +37,16 @@ pub enum Place<'a> {
     Word(&'a [u8]),
 }
 
-/// The parts in brackets, and what may follow them, as often as one likes.
+/// A row of the table: what begins a form, the word that does, the parts behind it and what may follow them.
+pub(crate) type Row<'a, H> = (H, &'a [u8], &'a [Place<'a>], Option<Place<'a>>);
+
+/// What stands in brackets.
 #[derive(Clone, Copy)]
-pub struct Form<'a> {
-    /// The parts.
-    pub parts: &'a [Place<'a>],
-    /// What may follow.
-    pub rest: Option<Place<'a>>,
+pub(crate) struct Form<'a> {
+    /// The word that stands first, if one does.
+    pub(crate) word: Option<&'a [u8]>,
+    /// The parts behind it.
+    pub(crate) parts: &'a [Place<'a>],
+    /// What may follow them, as often as one likes.
+    pub(crate) rest: Option<Place<'a>>,
 }

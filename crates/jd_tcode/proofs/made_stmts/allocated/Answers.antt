@@ -4,7 +4,7 @@ use Rattle.jd_syntax.specs.CodeViews.{stmt_view}
 use Rattle.jd_syntax.specs.Codes as trees
 use Rattle.jd_tforms.specs.Reading.{both}
 use Rattle.jd_tcode.specs.Pairing.{Gives}
-use Rattle.jd_tcode.proofs.made_stmts.make_alloc.Goals as goal
+use Rattle.jd_tcode.proofs.made_stmts.allocated.Goals as goal
 
 -- no class stands there
 no_object : {A T X Y Z E : Type 0} (view : A → T) (made : Result (Option A) E) (f : X → Y → T) (g : X → Z → T) (p : Option X) (q : Option Y) (r : Option Z) →
@@ -17,4 +17,4 @@ no_object view made f g p q r none given = subst (λ o. Gives view made (option_
 
 pub returns-in-None : goal.returns-in-None
 returns-in-None c = λ p q r given is length.
-    no_object stmt_view c.make_array.result trees.AllocObject trees.AllocArray p q r (sym (ap (option_map (λ k. k.0)) c.in-None.is) ∙ is) (c.make_array.ensures p r given length)
+    no_object stmt_view c.array.result trees.AllocObject trees.AllocArray p q r (sym (ap (option_map (λ k. k.0)) c.in-None.is) ∙ is) (c.array.ensures p r given length)
