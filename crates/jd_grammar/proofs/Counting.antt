@@ -1,8 +1,8 @@
 -- What a stack that counts values of nothing shows.
 use Rattle.std.proofs.Common.{◌≡◌, ◌<◌, ◌≤◌, ◌-◌, ◌+◌, ℕ, zero, suc, cond, nat_lt, List, [], ◌∷◌, ◌++◌, length, slice_index_or, slice_set, take, drop, replicate, reverse, refl, sym, ap, ap₂, subst, ◌∙◌, arith, length-append}
 use Rattle.std.proofs.Math.Seq.{set-append_seam}
-use Rattle.std.proofs.lemmas.List.{get_or-append-add, reverse-append}
-use Rattle.jd_grammar.specs.Counted.{IsTop, piled, shown}
+use Rattle.std.proofs.lemmas.List.{append-nil, get_or-append-add, reverse-append}
+use Rattle.jd_grammar.specs.Counted.{IsAlone, IsTop, piled, shown}
 use Rattle.jd_grammar.specs.Nodes.{filled, top_or}
 use Rattle.jd_grammar.specs.declared.piles.NodeParts.{NodeParts}
 use Rattle.jd_grammar.specs.declared.piles.Pile.{Pile}
@@ -99,3 +99,49 @@ under_set s others v m n t len l count top =
     let there : t ≡ q = top ∙ (ap₂ (λ xs k. slice_index_or xs k t) l.is behind ∙ get_or-append-add others (q ∷ []) 0 t) in
     ap₂ (λ xs k. slice_set xs k (pile t.value n)) l.is one
     ∙ (set-append_seam others q [] (pile t.value n) ∙ ap (λ (y : Pile _). others ++ pile y.value n ∷ []) there)
+
+-- ---- a first part alone
+
+pub take_first : {V : Type 0} (x : V) (n m w : ℕ) (rest : List V) → w ≡ n + m → take n (replicate w x ++ rest) ≡ replicate n x
+take_first x zero m w rest e = refl
+take_first x (suc n) m zero rest e = absurd (omega (arith, e))
+take_first x (suc n) m (suc w) rest e = ap (λ xs. x ∷ xs) (take_first x n m w rest (omega (arith, e)))
+
+pub drop_first : {V : Type 0} (x : V) (n m w : ℕ) (rest : List V) → w ≡ n + m → drop n (replicate w x ++ rest) ≡ replicate m x ++ rest
+drop_first x zero m w rest e = ap (λ k. replicate k x ++ rest) (let z : w ≡ m = omega (arith, e) in z)
+drop_first x (suc n) m zero rest e = absurd (omega (arith, e))
+drop_first x (suc n) m (suc w) rest e = drop_first x n m w rest (omega (arith, e))
+
+-- where nothing waits, so many of them
+pub alone_waits : {V : Type 0} (x y : V) (w v n : ℕ) (rest : List V) → (n ≡ 0 → ⊥) → n ≤ w → v ≡ w - n → y ≡ x → IsAlone x n y (replicate w x ++ rest) (replicate v x ++ rest)
+alone_waits x y w v n rest some enough less same =
+    let all : w ≡ n + v = omega (arith, enough, less) in
+    let whole : n ≡ suc (n - 1) = omega (arith, some) in
+    record {
+      others = n - 1;
+      count = whole;
+      parts = take_first x n v w rest all ∙ (ap (λ k. replicate k x) whole ∙ ap (λ z. z ∷ replicate (n - 1) x) (sym same));
+      left = sym (drop_first x n v w rest all);
+    }
+
+-- a value with so many of nothing right below it
+pub alone_lies : {V : Type 0} (x : V) (w v n : ℕ) (items rest : List (Pile V)) (p : Pile V) → w ≡ 0 → 0 < n → items ≡ rest ++ p ∷ [] → n - 1 ≤ p.under → v ≡ p.under - (n - 1) → IsAlone x n p.value (replicate w x ++ piled x (reverse items)) (replicate v x ++ piled x (reverse rest))
+alone_lies x w v n items rest p none some is enough less =
+    let all : p.under ≡ n - 1 + v = omega (arith, enough, less) in
+    let whole : n ≡ suc (n - 1) = omega (arith, some) in
+    let below = piled x (reverse rest) in
+    let before = lies x w items rest p none is in
+    record {
+      others = n - 1;
+      count = whole;
+      parts = ap₂ take whole before ∙ ap (λ xs. p.value ∷ xs) (take_first x (n - 1) v p.under below all);
+      left = sym (ap₂ drop whole before ∙ drop_first x (n - 1) v p.under below all);
+    }
+
+-- what lies there is put back
+pub put_back : {V : Type 0} (x : V) (w : ℕ) (items rest again : List (Pile V)) (p : Pile V) → items ≡ rest ++ p ∷ [] → again ≡ rest ++ p ∷ [] → replicate w x ++ piled x (reverse again) ≡ replicate w x ++ piled x (reverse items)
+put_back x w items rest again p is is_again = ap (λ ps. replicate w x ++ piled x (reverse ps)) (is_again ∙ sym is)
+
+-- there is none
+pub none_taken : {V : Type 0} (x : V) (w : ℕ) (items rest : List (Pile V)) → items ≡ rest ++ [] → replicate w x ++ piled x (reverse rest) ≡ replicate w x ++ piled x (reverse items)
+none_taken x w items rest is = ap (λ ps. replicate w x ++ piled x (reverse ps)) (sym (is ∙ append-nil rest))

@@ -11,3 +11,4 @@ pub mod Readers
 pub mod Walks
 mod Counting
 pub mod Walking
+pub mod Runs

@@ -3,19 +3,10 @@ use Rattle.std.proofs.Common.{◌≡◌, ℕ, zero, suc, ◌+◌, ◌-◌, ◌<�
 use Rattle.std.proofs.lemmas.List.{take_all}
 use Rattle.jd_grammar.specs.Counted.{IsKept, IsLeft, IsQuiet, IsWalked, KeptStep, QuietStep}
 use Rattle.jd_grammar.specs.Nodes.{Stands, StandFor, Evaluates, IsReadAs, Rooted, leaves, top_or}
+use Rattle.jd_grammar.proofs.Counting.{drop_first, take_first}
 use Rattle.jd_grammar.proofs.Walks.{forest_values, leaf_before, leaf_read, leaves_are, node_before, node_read}
 
 -- ---- values of nothing on top
-
-take_first : {V : Type 0} (x : V) (n m w : ℕ) (rest : List V) → w ≡ n + m → take n (replicate w x ++ rest) ≡ replicate n x
-take_first x zero m w rest e = refl
-take_first x (suc n) m zero rest e = absurd (omega (arith, e))
-take_first x (suc n) m (suc w) rest e = ap (λ xs. x ∷ xs) (take_first x n m w rest (omega (arith, e)))
-
-drop_first : {V : Type 0} (x : V) (n m w : ℕ) (rest : List V) → w ≡ n + m → drop n (replicate w x ++ rest) ≡ replicate m x ++ rest
-drop_first x zero m w rest e = ap (λ k. replicate k x ++ rest) (let z : w ≡ m = omega (arith, e) in z)
-drop_first x (suc n) m zero rest e = absurd (omega (arith, e))
-drop_first x (suc n) m (suc w) rest e = drop_first x n m w rest (omega (arith, e))
 
 pub quiet_step : {T V : Type 0} (count : ℕ → ℕ) (stands : Stands T V) (x : V) (p n w k m : ℕ) → IsQuiet count stands x p n → n ≤ w → k ≡ w - n → m ≡ k + 1 → QuietStep count stands x p w m
 quiet_step count stands x p n w k m quiet enough less more = record { parts = n; left = k; quiet = quiet; all = omega (arith, enough, less); after = omega (arith, more) }

@@ -19,6 +19,13 @@ pub record IsTop {V : Type 0} (s : Piles V) (others : List (Pile V)) (v : V) (un
   pub none_waits : s.waiting ≡ 0
   pub is : s.piles.items ≡ others ++ record { value = v; under = under } ∷ []
 
+-- of so many values on top this is the first, and the others are nothing; those below are left
+pub record IsAlone {V : Type 0} (nothing : V) (n : ℕ) (v : V) (before after : List V) : Type 0 where
+  pub others : ℕ
+  pub count : n ≡ suc others
+  pub parts : take n before ≡ v ∷ replicate others nothing
+  pub left : after ≡ drop n before
+
 -- ---- nodes for which nothing has to be taken off the stack but parts that are nothing
 
 -- nodes of a production, which have so many parts, stand for nothing where their parts do

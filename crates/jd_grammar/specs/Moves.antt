@@ -1,5 +1,5 @@
 -- What the parser's state has to do with trees.
-use Rattle.std.specs.Prelude.{◌≡◌, ℕ, List, [], ◌∷◌, ◌++◌, Bool, true, false, Option, Some, None, length, reverse}
+use Rattle.std.specs.Prelude.{◌≡◌, ℕ, List, [], ◌∷◌, ◌++◌, Bool, true, false, Option, Some, None, length, reverse, take}
 use Rattle.std.specs.Borrow.{Bor}
 use Rattle.std.specs.Int.{bit_at}
 use Rattle.std.specs.List.{slice_get}
@@ -9,7 +9,7 @@ use Rattle.jd_grammar.specs.declared.table.Symbol.TheVariants.{Token, Name}
 use Rattle.jd_grammar.specs.declared.machine.Machine.{Machine}
 use Rattle.jd_grammar.specs.Grammars.{Forest, IsForest, Spells, ahead, yield, preorder}
 use Rattle.jd_grammar.specs.Readings.{StopsAt}
-use Rattle.jd_grammar.specs.Tables.{PlainTable}
+use Rattle.jd_grammar.specs.Tables.{HasRun, PlainTable}
 use Rattle.jd_grammar.specs.Tests.{Sets, is_ll1, is_followed, are_known}
 
 abbrev pub chosen_view : Option (ℕ × Bor (List Symbol)) → Option (ℕ × List Symbol)
@@ -56,6 +56,12 @@ Stops t k m = (s : Sets) (start : ℕ) (done : List ℕ) → is_ll1 s t ≡ true
 abbrev pub Expands : PlainTable → ℕ → Machine → Machine → Bool → Type 0
 Expands t k m m' true = Keeps t k m m' × HasNoNameNext m'
 Expands t k m m' false = Stops t k m
+
+-- a run of these productions may be used where this stack is to come before a kind: so many of its symbols stay, and these come onto them
+pub record IsRunAhead (t : PlainTable) (k : ℕ) (stack : List Symbol) (order : List ℕ) (more : List Symbol) (left : ℕ) : Type 0 where
+  pub before : List Symbol
+  pub has : HasRun t k order before (reverse more)
+  pub next : reverse stack ≡ before ++ reverse (take left stack)
 
 -- what a token comes to
 abbrev pub Reads : PlainTable → ℕ → Machine → Machine → Bool → Type 0

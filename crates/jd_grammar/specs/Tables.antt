@@ -1,12 +1,20 @@
 -- A table as plain data.
-use Rattle.std.specs.Prelude.{ℕ, zero, suc, ◌+◌, ◌*◌, List, map, not, ◌&&◌, cond, nat_eq, nat_lt, Option, Some, None, slice_range, slice_index, slice_index_or, Bool, false}
+use Rattle.std.specs.Prelude.{◌≡◌, ℕ, zero, suc, ◌+◌, ◌*◌, List, map, reverse, not, ◌&&◌, cond, nat_eq, nat_lt, Option, Some, None, slice_range, slice_index, slice_index_or, Bool, false}
 use Rattle.std.specs.List.{slice_get}
 use Rattle.jd_grammar.specs.declared.table.Symbol.{Symbol}
 use Rattle.jd_grammar.specs.declared.table.Table.{Table}
 use Rattle.jd_grammar.specs.Grammars.{Production}
 
+-- productions that are used one after the other before a kind, each as one more than its number, with the symbols that are to come before
+-- and behind them
+pub record PlainRun : Type 0 where
+  pub kind : ℕ
+  pub order : List ℕ
+  pub before : List Symbol
+  pub behind : List Symbol
+
 -- the productions; by name and kind of the token ahead the production to use, and one more; how many kinds there are, the end
--- among them; the names that a whole text may be of; by name, what it weighs, and whether each tree of it has a token
+-- among them; the names that a whole text may be of; by name, what it weighs, and whether each tree of it has a token; runs
 pub record PlainTable : Type 0 where
   pub productions : List Production
   pub rows : List ℕ
@@ -14,9 +22,13 @@ pub record PlainTable : Type 0 where
   pub starts : List ℕ
   pub weights : List ℕ
   pub solid : List Bool
+  pub runs : List PlainRun
 
 abbrev pub production : List Symbol → ℕ × ℕ × ℕ × ℕ → Production
 production symbols r = record { head = r.0; unless = r.1; body = slice_range symbols r.2 r.3 }
+
+abbrev pub plain_run : List ℕ → List Symbol → ℕ × ℕ × ℕ × ℕ × ℕ × ℕ × ℕ → PlainRun
+plain_run orders symbols r = record { kind = r.0; order = slice_range orders r.1 r.2; before = reverse (slice_range symbols r.3 r.4); behind = reverse (slice_range symbols r.5 r.6) }
 
 abbrev pub plain : Table → PlainTable
 plain t = record {
@@ -26,6 +38,7 @@ plain t = record {
   starts = t.starts.now;
   weights = t.weights.now;
   solid = t.solid.now;
+  runs = map (plain_run t.run_order.now t.run_symbols.now) t.runs.now;
 }
 
 abbrev pub is_solid : PlainTable → ℕ → Bool
@@ -52,3 +65,7 @@ chosen_by g (suc p) a k = numbered (suc p) (usable (slice_get g p) a k)
 -- the production to use for a name before a kind
 abbrev pub chosen : PlainTable → ℕ → ℕ → Option (ℕ × List Symbol)
 chosen t a k = chosen_by t.productions (entry t a k) a k
+
+-- the table has this run
+abbrev pub HasRun : PlainTable → ℕ → List ℕ → List Symbol → List Symbol → Type 0
+HasRun t k order before behind = (n : ℕ) × (slice_get t.runs n ≡ Some (record { kind = k; order = order; before = before; behind = behind }))

@@ -1,11 +1,11 @@
 -- A test of a table that computes. The sets are given, and only tested: as masks, whose bit k stands for kind k, or for name k.
-use Rattle.std.specs.Prelude.{◌≡◌, ℕ, zero, suc, ◌+◌, ◌*◌, ◌/◌, ◌%◌, ◌^◌, List, [], ◌∷◌, Bool, true, false, not, ◌&&◌, ◌||◌, cond, nat_eq, nat_le, nat_lt, Option, Some, None, slice_index, bit_or, drop, length}
+use Rattle.std.specs.Prelude.{◌≡◌, ℕ, zero, suc, ◌+◌, ◌*◌, ◌/◌, ◌%◌, ◌^◌, List, [], ◌∷◌, ◌++◌, Bool, true, false, not, ◌&&◌, ◌||◌, cond, nat_eq, nat_le, nat_lt, Option, Some, None, slice_index, bit_or, drop, length}
 use Rattle.std.specs.Int.{bit_at}
 use Rattle.std.specs.List.{slice_get, list_any}
 use Rattle.jd_grammar.specs.declared.table.Symbol.{Symbol}
 use Rattle.jd_grammar.specs.declared.table.Symbol.TheVariants.{Token, Name}
 use Rattle.jd_grammar.specs.Grammars.{Production}
-use Rattle.jd_grammar.specs.Tables.{PlainTable, is_solid}
+use Rattle.jd_grammar.specs.Tables.{PlainRun, PlainTable, is_solid}
 
 pub record Sets : Type 0 where
   -- the names that can stand for no token
@@ -109,10 +109,46 @@ abbrev pub is_ll1 : Sets → PlainTable → Bool
 is_ll1 s t =
     productions_pass s t 0 t.productions && (witnesses_pass s t 0 s.ranks && (starts_pass s t.starts && nat_lt 0 t.width))
 
+-- ---- runs
+
+abbrev pub same_symbol : Symbol → Symbol → Bool
+same_symbol (Token k) (Token j) = nat_eq k j
+same_symbol (Name a) (Name b) = nat_eq a b
+same_symbol _ _ = false
+
+abbrev pub same_symbols : List Symbol → List Symbol → Bool
+same_symbols [] [] = true
+same_symbols (x ∷ xs) (y ∷ ys) = same_symbol x y && same_symbols xs ys
+same_symbols _ _ = false
+
+-- this production is the one of name a before kind k
+abbrev pub is_used : Sets → ℕ → ℕ → Option Production → Bool
+is_used s a k None = false
+is_used s a k (Some r) = nat_eq r.head a && (not (nat_eq r.unless k) && nat_eq (bit_at (first_of s r.body (slice_index s.follow a)) k) 1)
+
+abbrev pub body_of : Option Production → List Symbol
+body_of None = []
+body_of (Some r) = r.body
+
+-- these productions, each as one more than its number, lead before kind k from these symbols to those
+abbrev pub leads : Sets → PlainTable → ℕ → List ℕ → List Symbol → List Symbol → Bool
+leads s t k [] xs ys = same_symbols xs ys
+leads s t k (suc p ∷ qs) (Name a ∷ xs) ys =
+    is_used s a k (slice_get t.productions p) && leads s t k qs (body_of (slice_get t.productions p) ++ xs) ys
+leads s t k (q ∷ qs) xs ys = false
+
+abbrev pub run_passes : Sets → PlainTable → PlainRun → Bool
+run_passes s t r = nat_lt 0 (length r.order) && leads s t r.kind r.order r.before r.behind
+
+abbrev pub runs_pass : Sets → PlainTable → List PlainRun → Bool
+runs_pass s t [] = true
+runs_pass s t (r ∷ rs) = run_passes s t r && runs_pass s t rs
+
 -- some sets show that the table is that of an LL(1) grammar (Aho, Sethi and Ullman, 4.4)
 pub record IsLl1 (t : PlainTable) : Type 0 where
   pub sets : Sets
   pub passes : is_ll1 sets t ≡ true
+  pub runs : runs_pass sets t t.runs ≡ true
 
 -- a whole text may be of this name
 abbrev pub is_start : PlainTable → ℕ → Bool

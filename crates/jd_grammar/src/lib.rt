@@ -13,4 +13,4 @@ pub use fold::{Nodes, value_of};
 pub use laws::{one_order, one_tree};
 pub use piles::{Blank, NodeParts, Pile, Piles};
 pub use reading::{Refusal, parse};
-pub use table::{Rule, Symbol, Table};
+pub use table::{Rule, Run, Symbol, Table};

@@ -1,8 +1,8 @@
 //! A stack of values that counts those of nothing: in a derivation of an expression each level has one for what does not stand
 //! behind its operand.
 
-ghost use Rattle.std.specs.Prelude.{◌≡◌, ◌≤◌, ◌∷◌, ℕ, List, [], OnOk, cond, drop, take};
-ghost use Rattle.jd_grammar.specs.Counted.{IsTop, shown};
+ghost use Rattle.std.specs.Prelude.{◌≡◌, ◌≤◌, ◌<◌, ◌∷◌, ℕ, List, [], MatchOption, OnOk, cond, drop, take};
+ghost use Rattle.jd_grammar.specs.Counted.{IsAlone, IsTop, shown};
 ghost use Rattle.jd_grammar.specs.Nodes as plain;
 ghost use Rattle.jd_grammar.specs.Nodes.{top_or};
 ghost use Rattle.jd_grammar.specs.declared.piles.Pile.{Pile as PileOf};
@@ -119,6 +119,44 @@ impl<V: Blank + Drop> Piles<V> {
         self.take_top(count > 2, &mut parts.third);
         self.take_top(count > 3, &mut parts.fourth);
         parts
+    }
+
+    // The same where the first does not wait.
+    #[tactic(auto, using(crate::proofs::Counting::alone_lies, crate::proofs::Counting::put_back, crate::proofs::Counting::none_taken))]
+    fn take_lying(&mut self, count: u8) -> Option<V>
+        requires none_waits { self.old.waiting ≡ 0 }
+        requires some { 0 < count }
+        ensures { MatchOption result (shown V.nothing self.new ≡ shown V.nothing self.old) (λ v. IsAlone V.nothing count v (shown V.nothing self.old) (shown V.nothing self.new)) }
+    {
+        let others = (count - 1) as u32;
+        let Some(pile) = self.piles.pop() else {
+            return None;
+        };
+        if pile.under < others {
+            self.piles.push_reserved(pile);
+            return None;
+        }
+        let Pile { value, under } = pile;
+        self.waiting = under - others;
+        Some(value)
+    }
+
+    /// Takes a node's parts, so many of them, if all behind the first are nothing, and gives the first. It may give none for any.
+    #[tactic(auto, using(crate::proofs::Counting::alone_waits))]
+    pub fn take_alone(&mut self, count: u8) -> Option<V>
+        ensures { MatchOption result (shown V.nothing self.new ≡ shown V.nothing self.old) (λ v. IsAlone V.nothing count v (shown V.nothing self.old) (shown V.nothing self.new)) }
+    {
+        if count == 0 {
+            return None;
+        }
+        if self.waiting == 0 {
+            return self.take_lying(count);
+        }
+        if self.waiting < count as u32 {
+            return None;
+        }
+        self.waiting -= count as u32;
+        Some(V::nothing())
     }
 
     /// The value on top, or nothing.

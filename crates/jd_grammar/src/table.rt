@@ -1,6 +1,6 @@
-ghost use Rattle.std.specs.Prelude.{◌≡◌, ℕ, slice_range};
+ghost use Rattle.std.specs.Prelude.{◌≡◌, ℕ, IfSome, reverse, slice_range};
 ghost use Rattle.jd_grammar.specs.Moves.{chosen_view};
-ghost use Rattle.jd_grammar.specs.Tables.{chosen, entry, plain};
+ghost use Rattle.jd_grammar.specs.Tables.{HasRun, chosen, entry, plain};
 
 /// A symbol of a grammar.
 #[derive(Clone, Copy)]
@@ -14,6 +14,10 @@ pub enum Symbol {
 /// A production of a grammar: the name that it is of; the kind of token before which it is not used, one that no token has where it
 /// always is; and where what stands for the name lies among the table's symbols: its first symbol, and the one behind its last.
 pub type Rule = (u8, u8, u16, u16);
+
+/// Productions that are used one after the other before this kind of token: where they lie among the table's, each as one more than its
+/// number; and where what is to come before and what is to come behind them lies among its symbols, the next symbol last.
+pub type Run = (u8, u16, u16, u16, u16, u16, u16);
 
 /// A grammar with its parsing table.
 #[derive(Clone, Copy)]
@@ -33,6 +37,15 @@ pub struct Table<'a> {
     pub weights: &'a [u8],
     /// By name: whether each tree of it has a token.
     pub solid: &'a [bool],
+    /// Runs of productions, as of the levels of an expression.
+    pub runs: &'a [Run],
+    /// By name and kind of the token ahead, at `name * width + kind`: one more than the number of a run that may be used where that name
+    /// is to come next, or 0 for none.
+    pub run_rows: &'a [u16],
+    /// The productions of the runs.
+    pub run_order: &'a [u16],
+    /// What is to come before and behind them.
+    pub run_symbols: &'a [Symbol],
 }
 
 // The entry of a name and a kind.
@@ -50,17 +63,20 @@ fn entry_at(table: &Table<'_>, name: u8, kind: u8) -> u16
     }
 }
 
-// What stands for a production's name.
-fn body<'a>(table: &Table<'a>, rule: Rule) -> &'a [Symbol]
-    ensures { result.now ≡ slice_range table.now.symbols.now rule.2 rule.3 }
+fn symbols_in(symbols: &[Symbol], from: u16, to: u16) -> &[Symbol]
+    ensures { result.now ≡ slice_range symbols.now from to }
 {
-    let from = rule.2 as usize;
-    let to = (rule.3 as usize).min(table.symbols.len());
-    if from < to {
-        &table.symbols[from..to]
-    } else {
-        &[]
-    }
+    let from = from as usize;
+    let to = (to as usize).min(symbols.len());
+    if from < to { &symbols[from..to] } else { &[] }
+}
+
+fn numbers_in(numbers: &[u16], from: u16, to: u16) -> &[u16]
+    ensures { result.now ≡ slice_range numbers.now from to }
+{
+    let from = from as usize;
+    let to = (to as usize).min(numbers.len());
+    if from < to { &numbers[from..to] } else { &[] }
 }
 
 /// The production to use for a name with a token of this kind ahead: one more than its number, and its body.
@@ -82,5 +98,45 @@ pub(crate) fn choose<'a>(table: &Table<'a>, name: u8, kind: u8) -> Option<(u16, 
     if rule.1 == kind {
         return None;
     }
-    Some((number, body(table, rule)))
+    Some((number, symbols_in(table.symbols, rule.2, rule.3)))
+}
+
+// One more than the number of the run for a name before a kind, or 0.
+fn run_at(table: &Table<'_>, name: u8, kind: u8) -> u16 {
+    if kind >= table.width {
+        return 0;
+    }
+    let at = name as usize * table.width as usize + kind as usize;
+    if at < table.run_rows.len() {
+        table.run_rows[at]
+    } else {
+        0
+    }
+}
+
+/// A run for a name with a token of this kind ahead: what is to come before it, the next symbol last, its productions, each one more than
+/// its number, and what is to come behind it.
+pub(crate) fn run_of<'a>(
+    table: &Table<'a>,
+    name: u8,
+    kind: u8,
+) -> Option<(&'a [Symbol], &'a [u16], &'a [Symbol])>
+    ensures { IfSome result (λ r. HasRun (plain table.now) kind r.1.now (reverse r.0.now) (reverse r.2.now)) }
+{
+    let number = run_at(table, name, kind);
+    if number == 0 {
+        return None;
+    }
+    let at = (number - 1) as usize;
+    if at >= table.runs.len() {
+        return None;
+    }
+    let run = table.runs[at];
+    if run.0 != kind {
+        return None;
+    }
+    let order = numbers_in(table.run_order, run.1, run.2);
+    let before = symbols_in(table.run_symbols, run.3, run.4);
+    let behind = symbols_in(table.run_symbols, run.5, run.6);
+    Some((before, order, behind))
 }

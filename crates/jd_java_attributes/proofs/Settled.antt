@@ -10,6 +10,7 @@ use Rattle.jd_java_attributes.specs.declared.form.Kind.TheVariants as kinds
 use Rattle.jd_java_attributes.specs.declared.form.Asked.{Asked}
 use Rattle.jd_java_attributes.specs.declared.form.Asked.TheVariants as asks
 use Rattle.jd_java_attributes.specs.declared.form.TheConstants.{EMPTY}
+use Rattle.jd_java_attributes.specs.declared.rows.Rule.{Rule}
 use Rattle.jd_java_attributes.specs.declared.rows.Rule.TheVariants as rules
 use Rattle.jd_java_attributes.specs.Folding.{IsSettled, alone, behind_tokens}
 use Rattle.jd_java_attributes.specs.Forms.{asked_behind, behind, first_of, in_order, inside, unmet}
@@ -172,4 +173,12 @@ encloses f s ts n =
     let low : min (f.height + 1) 201 ≤ 201 = omega arith in
     let once : in_order g EMPTY ≡ g = ended_low g refl refl low (behind_settled n f s).counted in
     ap (λ x. with_high ts (closed (in_order (in_order (in_order (in_order (above (inside f.kind) x) EMPTY) EMPTY) EMPTY) EMPTY))) (begun_behind n f s)
+    ∙ ap (λ x. with_high ts (closed x)) (ap (λ x. in_order (in_order (in_order x EMPTY) EMPTY) EMPTY) once ∙ all_ended g once)
+
+-- an operand with nothing in it or behind it
+pub stands_alone : (rule : Rule) (kind : Kind) (n : ℕ) (f : Form) → n ≤ 4294967295 → rule ≡ rules.Operand kind → f ≡ EMPTY → (ts : List PlainLexeme) → with_high ts (made rule n ts (alone f)) ≡ record EMPTY { tokens = n; kind = kind }
+stands_alone rule kind n f bound is empty ts =
+    let g : Form = record EMPTY { tokens = n; kind = kind } in
+    let once : in_order g EMPTY ≡ g = ended_low g refl refl (omega arith) bound in
+    ap₂ (λ r x. with_high ts (made r n ts (alone x))) is empty
     ∙ ap (λ x. with_high ts (closed x)) (ap (λ x. in_order (in_order (in_order x EMPTY) EMPTY) EMPTY) once ∙ all_ended g once)

@@ -23,9 +23,8 @@ form_at p ts forms = with_high ts (made (row_of p).2 (row_of p).0 ts (filled (al
 abbrev pub IsFormAt : ℕ → List Lexeme → List Form → Form → Type 0
 IsFormAt p ts forms v = v ≡ form_at p (map lexeme_view ts) forms
 
--- a production without tokens and names, whose nodes have the form of nothing
+-- a production without tokens, whose nodes have the form of nothing where their parts do
 pub record IsBlank (row : ℕ × ℕ × Rule) : Type 0 where
-  pub nameless : row.1 ≡ 0
   pub empty : (ts : List PlainLexeme) → with_high ts (made row.2 row.0 ts (all_of EMPTY)) ≡ EMPTY
 
 -- nothing behind the first part

@@ -1,10 +1,10 @@
 //! The attributes of a whole file: its form and what it tells of members, each by a fold of its own.
 
-ghost use Rattle.std.specs.Prelude.{◌≡◌, ◌∷◌, IfOk, IfSome, OnOk, length, map};
+ghost use Rattle.std.specs.Prelude.{◌≡◌, ◌∷◌, IfOk, IfSome, OnOk, drop, length, map, take};
 ghost use Rattle.jd_grammar.specs.Counted.{IsKept, IsQuiet, shown};
 ghost use Rattle.jd_grammar.specs.Nodes.{IsRead, IsReadAs, Rooted};
 ghost use Rattle.jd_java_tokens.specs.Lexemes.{lexeme_view};
-ghost use Rattle.jd_java_attributes.specs.Folding.{IsFormAt, IsToldAt};
+ghost use Rattle.jd_java_attributes.specs.Folding.{IsFormAt, IsToldAt, form_at};
 ghost use Rattle.jd_java_attributes.specs.Headings.{heading_view};
 ghost use Rattle.jd_java_attributes.specs.Judging as plain;
 ghost use Rattle.jd_java_attributes.specs.Judging.{attributes_of, attributes_view, names_of};
@@ -14,7 +14,7 @@ ghost use Rattle.jd_java_attributes.specs.declared.heading.Told.TheVariants as t
 use crate::form::{EMPTY, Form, first_of};
 use crate::heading::{Heading, Told, heading_in, told_by};
 use crate::rows::{names_of, row};
-use crate::rules::form_by;
+use crate::rules::{form_alone, form_by};
 use crate::short::{kept_form_parts, quiet_form_parts, quiet_told_parts};
 use jd_base::NoMemory;
 use jd_grammar::{Blank, NodeParts, Nodes, Piles, value_of};
@@ -69,6 +69,24 @@ impl<'a> Blank for Told<'a> {
     }
 }
 
+// The form of a node, whose parts are taken off the stack.
+fn formed(production: u16, tokens: &[Lexeme<'_>], piles: &mut Piles<Form>) -> Form
+    ensures value { result ≡ form_at production (map lexeme_view tokens.now) (take (names_of production) (shown NOTHING piles.old)) }
+    ensures rest { shown NOTHING piles.new ≡ drop (names_of production) (shown NOTHING piles.old) }
+{
+    let row = row(production);
+    if row.1 == 0 {
+        return form_alone(row, tokens, EMPTY);
+    }
+    match piles.take_alone(row.1) {
+        Some(first) => form_alone(row, tokens, first),
+        None => {
+            let parts = piles.take_parts(names_of(production), NO_FORMS);
+            form_by(row, tokens, parts)
+        }
+    }
+}
+
 /// The nodes of Java's files, which stand for their forms.
 #[derive(Clone, Copy)]
 pub struct FormNodes;
@@ -97,8 +115,8 @@ impl<'a> Nodes<Lexeme<'a>, Form> for FormNodes {
         tokens: &[Lexeme<'a>],
         piles: &mut Piles<Form>,
     ) -> Result<(), NoMemory> {
-        let parts = piles.take_parts(names_of(production), NO_FORMS);
-        piles.add(form_by(row(production), tokens, parts))
+        let form = formed(production, tokens, piles);
+        piles.add(form)
     }
 }
 

@@ -1,6 +1,6 @@
 //! What a node's rule makes of the attributes of its parts.
 
-ghost use Rattle.std.specs.Prelude.{◌≡◌, ℕ, List, map, true};
+ghost use Rattle.std.specs.Prelude.{◌≡◌, ℕ, IfSome, List, map, true};
 ghost use Rattle.jd_java_tokens.specs.Lexemes.{lexeme_view};
 ghost use Rattle.jd_java_tokens.specs.Contents.{PlainLexeme};
 ghost use Rattle.jd_java_attributes.specs.Folding as folding;
@@ -233,19 +233,6 @@ fn form_of(rule: Rule, count: u8, tokens: &[Lexeme<'_>], parts: NodeParts<Form>)
     }
 }
 
-// Whether there is nothing behind the first part.
-fn is_alone(parts: NodeParts<Form>) -> bool
-    ensures { result ≡ true → parts ≡ alone parts.first }
-{
-    if parts.second != EMPTY {
-        return false;
-    }
-    if parts.third != EMPTY {
-        return false;
-    }
-    parts.fourth == EMPTY
-}
-
 // Whether it is not too high.
 #[tactic(auto, using(crate::proofs::Settled::not_too_high))]
 fn is_low(form: Form) -> bool
@@ -284,15 +271,13 @@ pub(crate) fn is_settled(form: Form) -> bool
     form.asked == Asked::Nothing
 }
 
-// Whether a node's form is that of its first part behind its tokens, as of a level of expressions without an operator of that level.
+// Whether a node's form is that of its first part behind its tokens, where nothing stands behind that, as of a level of expressions
+// without an operator of that level.
 #[tactic(auto, using(crate::proofs::Settled::stays_behind, crate::proofs::Settled::stays_whole_behind))]
-fn is_first(rule: Rule, count: u8, parts: NodeParts<Form>) -> bool
-    ensures { result ≡ true → (ts : List PlainLexeme) → plain.with_high ts (plain.made rule count ts parts) ≡ folding.behind_tokens count parts.first }
+fn is_first(rule: Rule, count: u8, first: Form) -> bool
+    ensures { result ≡ true → (ts : List PlainLexeme) → plain.with_high ts (plain.made rule count ts (alone first)) ≡ folding.behind_tokens count first }
 {
-    if !is_alone(parts) {
-        return false;
-    }
-    if !is_settled(parts.first) {
+    if !is_settled(first) {
         return false;
     }
     match rule {
@@ -301,15 +286,12 @@ fn is_first(rule: Rule, count: u8, parts: NodeParts<Form>) -> bool
     }
 }
 
-// Whether a node is an operand of its first part in parentheses, behind which nothing stands.
+// Whether a node is an operand of its first part in parentheses.
 #[tactic(auto, using(crate::proofs::Settled::encloses))]
-fn is_enclosed(rule: Rule, parts: NodeParts<Form>) -> bool
-    ensures { result ≡ true → (ts : List PlainLexeme) (n : ℕ) → plain.with_high ts (plain.made rule n ts parts) ≡ plain.with_high ts (plain.above (inside_of parts.first.kind) (folding.behind_tokens n parts.first)) }
+fn is_enclosed(rule: Rule, first: Form) -> bool
+    ensures { result ≡ true → (ts : List PlainLexeme) (n : ℕ) → plain.with_high ts (plain.made rule n ts (alone first)) ≡ plain.with_high ts (plain.above (inside_of first.kind) (folding.behind_tokens n first)) }
 {
-    if !is_alone(parts) {
-        return false;
-    }
-    if !is_settled(parts.first) {
+    if !is_settled(first) {
         return false;
     }
     match rule {
@@ -338,14 +320,55 @@ fn enclosed(count: u8, tokens: &[Lexeme<'_>], form: Form) -> Form
     }
 }
 
-/// Whether nodes of this row have nothing in them.
+// The form of an operand with nothing in it or behind it, as of a name.
+#[tactic(auto, using(crate::proofs::Settled::stands_alone))]
+fn operand_alone(rule: Rule, count: u8, first: Form) -> Option<Form>
+    ensures { IfSome result (λ f. (ts : List PlainLexeme) → plain.with_high ts (plain.made rule count ts (alone first)) ≡ f) }
+{
+    let Rule::Operand(kind) = rule else {
+        return None;
+    };
+    if first != EMPTY {
+        return None;
+    }
+    Some(Form {
+        tokens: count as u32,
+        kind,
+        ..EMPTY
+    })
+}
+
+/// Whether nodes of this row have the form of nothing where their parts do.
 pub(crate) fn is_blank(row: Row) -> bool
     ensures { result ≡ true → IsBlank row }
 {
     match row {
-        (0, 0, Rule::Parts) => true,
+        (0, _, Rule::Parts) => true,
         _ => false,
     }
+}
+
+/// The form of a node of this row, behind whose first part nothing stands.
+pub(crate) fn form_alone(row: Row, tokens: &[Lexeme<'_>], first: Form) -> Form
+    ensures { result ≡ plain.with_high (map lexeme_view tokens.now) (plain.made row.2 row.0 (map lexeme_view tokens.now) (alone first)) }
+{
+    let (count, _, rule) = row;
+    if is_first(rule, count, first) {
+        return behind_tokens(count, first);
+    }
+    if is_enclosed(rule, first) {
+        return enclosed(count, tokens, first);
+    }
+    if let Some(form) = operand_alone(rule, count, first) {
+        return form;
+    }
+    let parts = NodeParts {
+        first,
+        second: EMPTY,
+        third: EMPTY,
+        fourth: EMPTY,
+    };
+    form_of(rule, count, tokens, parts)
 }
 
 /// The form of a node of this row.
@@ -353,11 +376,5 @@ pub(crate) fn form_by(row: Row, tokens: &[Lexeme<'_>], parts: NodeParts<Form>) -
     ensures { result ≡ plain.with_high (map lexeme_view tokens.now) (plain.made row.2 row.0 (map lexeme_view tokens.now) parts) }
 {
     let (count, _, rule) = row;
-    if is_first(rule, count, parts) {
-        return behind_tokens(count, parts.first);
-    }
-    if is_enclosed(rule, parts) {
-        return enclosed(count, tokens, parts.first);
-    }
     form_of(rule, count, tokens, parts)
 }

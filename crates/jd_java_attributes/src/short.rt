@@ -15,18 +15,18 @@ use crate::rows::{Row, Rule, row};
 use crate::rules::{is_blank, is_settled};
 
 /// How many parts nodes of a production have, if they have the form of nothing where their parts do.
-#[tactic(auto, using(crate::proofs::Levels::quiet_form))]
 pub(crate) fn quiet_form_parts(production: u16) -> Option<u8>
     ensures { IfSome result (λ n. IsQuiet the_names IsFormAt NOTHING production n) }
 {
-    if !is_blank(row(production)) {
+    let row = row(production);
+    if !is_blank(row) {
         return None;
     }
-    Some(0)
+    Some(row.1)
 }
 
 // How many parts nodes of this row have behind the first, if they have its form where it is alone, as of a level of expressions.
-#[tactic(auto, using(crate::proofs::Levels::level, crate::proofs::Levels::list, crate::proofs::Levels::only_level, crate::proofs::Levels::only_list))]
+#[tactic(auto, using(crate::proofs::Levels::level, crate::proofs::Levels::list, crate::proofs::Levels::wide_level, crate::proofs::Levels::only_level, crate::proofs::Levels::only_list))]
 fn level_parts(row: Row) -> Option<u8>
     ensures { IfSome result (λ n. IsLevel row n) }
 {
@@ -35,6 +35,7 @@ fn level_parts(row: Row) -> Option<u8>
         (0, 1, Rule::Parts) => Some(0),
         (0, 2, Rule::Expression) => Some(1),
         (0, 2, Rule::Parts) => Some(1),
+        (0, 3, Rule::Expression) => Some(2),
         _ => None,
     }
 }

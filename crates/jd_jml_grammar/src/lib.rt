@@ -13,6 +13,8 @@ mod laws;
 pub mod names;
 mod rows;
 mod rules;
+mod run_symbols;
+mod runs;
 
 use jd_grammar::{Refusal, Table, parse};
 pub use laws::one_derivation;
@@ -30,6 +32,10 @@ fn jml_table() -> Table<'static>
         starts: &names::STARTS,
         weights: &rows::WEIGHTS,
         solid: &rows::SOLID,
+        runs: &runs::RUNS,
+        run_rows: &rows::RUN_ROWS,
+        run_order: &runs::RUN_ORDER,
+        run_symbols: &run_symbols::RUN_SYMBOLS,
     }
 }
 

@@ -3,7 +3,7 @@ use Rattle.jd_grammar.proofs.table.choose.Goals as goal
 
 pub returns : goal.returns
 returns c =
-    chosen_yes c.args.table.now c.entry_at-number.result _ c.args.name c.args.kind (0, 0, 0, 0) c.body.result.now c.if-number-eq0.false c.entry_at-number.ensures c.if-at-table.false c.if-rule-name.false c.if-rule-kind.false c.body.ensures
+    chosen_yes c.args.table.now c.entry_at-number.result _ c.args.name c.args.kind (0, 0, 0, 0) c.symbols_in.result.now c.if-number-eq0.false c.entry_at-number.ensures c.if-at-table.false c.if-rule-name.false c.if-rule-kind.false c.symbols_in.ensures
 
 pub returns-then-rule-name : goal.returns-then-rule-name
 returns-then-rule-name c =
