@@ -1,9 +1,9 @@
-mod Every
+pub mod Every
 mod Named
 mod Shapes
 mod Table
 mod Trees
-mod Words
-mod Tokens
+pub mod Words
+pub mod Tokens
 mod Filled
 mod Declared

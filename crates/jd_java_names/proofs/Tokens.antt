@@ -12,10 +12,10 @@ use Rattle.jd_java_names.proofs.Words.{word_named, IsJavaWord, kind_named, run_n
 use Rattle.jd_java_names.proofs.Trees.{IsSo}
 
 -- a word outside JML is an identifier
-abbrev HasWord : Token → Type 0
+abbrev pub HasWord : Token → Type 0
 HasWord t = t.jml ≡ false → IsJavaWord t.kind
 
-abbrev HaveWords : List Token → Type 0
+abbrev pub HaveWords : List Token → Type 0
 HaveWords ts = Every HasWord ts
 
 none_have : (ts : List Token) → ts ≡ [] → HaveWords ts
@@ -69,7 +69,7 @@ java_by BlockComment at p rest is (body, comment, gives) = comment_has at (jml_t
 java_part : (at : ℕ) (p : Part) (rest : List ℕ) → IsJavaPart at p rest → HaveWords p.tokens
 java_part at p rest h = java_by (start_of false (p.text ++ rest)) at p rest refl h
 
-tokens_have : (bytes : List ℕ) (tokens : List Token) → Spells bytes tokens → HaveWords tokens
+pub tokens_have : (bytes : List ℕ) (tokens : List Token) → Spells bytes tokens → HaveWords tokens
 tokens_have bytes tokens s =
     let leads = s.parts.leads in
     subst HaveWords (sym leads.given) (parts_have IsJavaPart java_part leads.parts 0 bytes s.parts.end [] leads.reach)
