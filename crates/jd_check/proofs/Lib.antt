@@ -1,1 +1,1 @@
-mod Walking
+pub mod Walking

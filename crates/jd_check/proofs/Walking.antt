@@ -51,10 +51,17 @@ behind_prelude units i =
     twice None = refl
     twice (Some d) = refl
 
-dropped : {X : Type 0} (xs : List X) (i : ℕ) (x : X) → slice_get xs i ≡ Some x → drop i xs ≡ x ∷ drop (suc i) xs
+pub dropped : {X : Type 0} (xs : List X) (i : ℕ) (x : X) → slice_get xs i ≡ Some x → drop i xs ≡ x ∷ drop (suc i) xs
 dropped [] i x e = absurd (none-some x e)
 dropped (y ∷ ys) zero x e = ap (λ z. z ∷ ys) (same_Some y x e)
 dropped (y ∷ ys) (suc i) x e = dropped ys i x e
+
+-- no more than these
+pub all_dropped : {X : Type 0} (xs : List X) (n : ℕ) → length xs ≤ n → drop n xs ≡ []
+all_dropped [] zero le = refl
+all_dropped [] (suc n) le = refl
+all_dropped (x ∷ xs) zero le = absurd (omega (arith, le))
+all_dropped (x ∷ xs) (suc n) le = all_dropped xs n (omega (arith, le))
 
 module _ (d : Declarations) (units : List JavaUnit) where
   abbrev From : ℕ → ℕ → Option (ℕ × Fault)
@@ -69,12 +76,12 @@ module _ (d : Declarations) (units : List JavaUnit) where
   here file (Ok s) rest own x is some = absurd (none-some x (sym is ∙ some))
   here file (Err f) rest own x is some = is
 
-  record At (class : ℕ) (info : PlainClassInfo) : Type 0 where
-    declared : DeclaredClass
-    there : slice_get (declared_classes units) (class - 10) ≡ Some declared
-    listed : info ≡ declared_info units (class, declared)
+  pub record At (class : ℕ) (info : PlainClassInfo) : Type 0 where
+    pub declared : DeclaredClass
+    pub there : slice_get (declared_classes units) (class - 10) ≡ Some declared
+    pub listed : info ≡ declared_info units (class, declared)
 
-  at_class : (class : ℕ) (info : PlainClassInfo) → 10 ≤ class → slice_get (class_infos units) class ≡ Some info → At class info
+  pub at_class : (class : ℕ) (info : PlainClassInfo) → 10 ≤ class → slice_get (class_infos units) class ≡ Some info → At class info
   at_class class info le there =
       let i : ℕ = class - 10 in
       let whole : class ≡ 10 + i = omega arith in
@@ -121,9 +128,3 @@ module _ (d : Declarations) (units : List JavaUnit) where
   -- no class is left
   pub none_left : (class : ℕ) → length (declared_classes units) ≤ class - 10 → first_fault d units ≡ From class (class - 10) → None ≡ first_fault d units
   none_left class few so_far = sym (so_far ∙ ap (fault_from d class) (all_dropped (declared_classes units) (class - 10) few))
-    where
-      all_dropped : {X : Type 0} (xs : List X) (n : ℕ) → length xs ≤ n → drop n xs ≡ []
-      all_dropped [] zero le = refl
-      all_dropped [] (suc n) le = refl
-      all_dropped (x ∷ xs) zero le = absurd (omega (arith, le))
-      all_dropped (x ∷ xs) (suc n) le = all_dropped xs n (omega (arith, le))

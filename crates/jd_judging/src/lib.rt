@@ -7,6 +7,7 @@ mod rules;
 
 pub use expressions::{arguments, judged};
 pub use operators::{
-    above_parameters, creation_fits, or_nothing, type_by, wanted, written_class, written_type,
+    above_parameters, are_related, creation_fits, fits, joined, or_nothing, type_by, wanted,
+    written_class, written_type,
 };
-pub use rules::{fault, value_of, valued};
+pub use rules::{fault, is_reference, part_type, value_of, valued, whole_type};

@@ -22,7 +22,7 @@ use jd_syntax::{
 // ---- types
 
 /// Whether a value of the first type may stand where one of the second is wanted.
-pub(crate) fn fits<D: Declares>(d: &D, have: ValueType, want: ValueType) -> bool
+pub fn fits<D: Declares>(d: &D, have: ValueType, want: ValueType) -> bool
     ensures { result ≡ plain_types.fits (D.declarations d.now) have want }
 {
     match (have, want) {
@@ -39,7 +39,7 @@ pub(crate) fn fits<D: Declares>(d: &D, have: ValueType, want: ValueType) -> bool
 }
 
 /// Up or down the order of types.
-pub(crate) fn are_related<D: Declares>(d: &D, a: ValueType, b: ValueType) -> bool
+pub fn are_related<D: Declares>(d: &D, a: ValueType, b: ValueType) -> bool
     ensures { result ≡ plain_types.are_related (D.declarations d.now) a b }
 {
     fits(d, a, b) || fits(d, b, a)
@@ -58,7 +58,7 @@ fn common<D: Declares>(d: &D, a: ValueType, b: ValueType) -> Option<ValueType>
 }
 
 /// The type of what is of one type or of the other.
-pub(crate) fn joined<D: Declares>(d: &D, a: ValueType, b: ValueType) -> Option<ValueType>
+pub fn joined<D: Declares>(d: &D, a: ValueType, b: ValueType) -> Option<ValueType>
     ensures { result ≡ plain_types.joined (D.declarations d.now) a b }
 {
     if fits(d, a, b) {

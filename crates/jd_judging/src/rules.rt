@@ -100,7 +100,7 @@ pub(crate) fn this_gives(place: Place, at: u32) -> Result<Given, Fault>
 }
 
 /// The type of an operator's parts; none where any two types that are related are compared.
-pub(crate) fn part_type(operator: InfixOperator) -> Option<ValueType>
+pub fn part_type(operator: InfixOperator) -> Option<ValueType>
     ensures { result ≡ plain.part_type operator }
 {
     match operator {
@@ -111,7 +111,7 @@ pub(crate) fn part_type(operator: InfixOperator) -> Option<ValueType>
 }
 
 /// The type of what an operator gives.
-pub(crate) fn whole_type(operator: InfixOperator) -> ValueType
+pub fn whole_type(operator: InfixOperator) -> ValueType
     ensures { result ≡ plain.whole_type operator }
 {
     match operator {
@@ -248,7 +248,7 @@ pub(crate) fn argument_then(fits: bool, at: u32, rest: Arguments) -> Arguments
 }
 
 /// Whether values of the type are references.
-pub(crate) fn is_reference(t: ValueType) -> bool
+pub fn is_reference(t: ValueType) -> bool
     ensures { result ≡ plain_types.is_reference t }
 {
     !matches!(t, ValueType::Int | ValueType::Boolean)

@@ -1,4 +1,4 @@
 mod Growing
 mod Members
-mod Sizes
-mod Taken
+pub mod Sizes
+pub mod Taken

@@ -1,0 +1,6 @@
+//! The JML of a program: which token of it is refused first.
+#![tactic(auto)]
+
+mod refused;
+
+pub use refused::{Refused, first_refused};
