@@ -5,9 +5,9 @@ mod expressions;
 mod operators;
 mod rules;
 
-pub use expressions::{arguments, judged};
+pub use expressions::{arguments, class_before, judged, meaning};
 pub use operators::{
-    above_parameters, are_related, creation_fits, fits, joined, or_nothing, type_by, wanted,
-    written_class, written_type,
+    above_parameters, are_related, callee_by_name, callee_on, creation_fits, fits, joined,
+    or_nothing, type_by, wanted, written_class, written_type,
 };
 pub use rules::{fault, is_reference, part_type, value_of, valued, whole_type};
