@@ -9,8 +9,8 @@ use jd_base::{NoMemory, both};
 use jd_syntax::{ClauseForm, SpecClause};
 use std::alloc::Global;
 
-// A copy of the clause.
-fn copy_clause(alloc: Global, c: &SpecClause) -> Result<SpecClause, NoMemory>
+/// A copy of the clause.
+pub fn copy_clause(alloc: Global, c: &SpecClause) -> Result<SpecClause, NoMemory>
     ensures { IfOk result (λ d. clause_view d ≡ clause_view c.now) }
 {
     let at = c.at;

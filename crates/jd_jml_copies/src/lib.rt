@@ -6,5 +6,5 @@ mod copies;
 mod makers;
 mod names;
 
-pub use clauses::copy_clauses;
+pub use clauses::{copy_clause, copy_clauses};
 pub use copies::{copy_expression, copy_locations};
