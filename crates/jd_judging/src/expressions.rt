@@ -17,12 +17,7 @@ use jd_naming::{Declares, InScope};
 use jd_syntax::{Expr, ExprForm};
 
 /// What a name stands for where a variable may stand.
-pub(crate) fn meaning<D: Declares, S: InScope>(
-    d: &D,
-    place: Place,
-    scope: &S,
-    name: &[u8],
-) -> Meaning
+pub fn meaning<D: Declares, S: InScope>(d: &D, place: Place, scope: &S, name: &[u8]) -> Meaning
     ensures { result ≡ scopes.meaning (D.declarations d.now) place (S.scope scope.now).locals name.now }
 {
     match scope.type_of(name) {
@@ -46,7 +41,7 @@ fn class_meant<D: Declares, S: InScope>(d: &D, place: Place, scope: &S, name: &[
 }
 
 /// The class that stands before a dot.
-pub(crate) fn class_before<D: Declares, S: InScope>(
+pub fn class_before<D: Declares, S: InScope>(
     d: &D,
     place: Place,
     scope: &S,

@@ -5,8 +5,9 @@ mod expressions;
 mod operators;
 mod rules;
 
-pub use expressions::{arguments, judged};
+pub use expressions::{arguments, class_before, judged, meaning};
 pub use operators::{
-    above_parameters, creation_fits, or_nothing, type_by, wanted, written_class, written_type,
+    above_parameters, callee_by_name, callee_on, creation_fits, joined, or_nothing, type_by,
+    wanted, written_class, written_type,
 };
-pub use rules::{fault, value_of, valued};
+pub use rules::{fault, value_of, valued, whole_type};

@@ -58,7 +58,7 @@ fn common<D: Declares>(d: &D, a: ValueType, b: ValueType) -> Option<ValueType>
 }
 
 /// The type of what is of one type or of the other.
-pub(crate) fn joined<D: Declares>(d: &D, a: ValueType, b: ValueType) -> Option<ValueType>
+pub fn joined<D: Declares>(d: &D, a: ValueType, b: ValueType) -> Option<ValueType>
     ensures { result ≡ plain_types.joined (D.declarations d.now) a b }
 {
     if fits(d, a, b) {
@@ -345,8 +345,8 @@ pub(crate) fn field_gives<D: Declares>(
 
 // ---- calls
 
-// What the name of a method stands for on a value.
-fn callee_on<D: Declares>(d: &D, name: &[u8], t: ValueType) -> Callee
+/// What the name of a method stands for on a value.
+pub fn callee_on<D: Declares>(d: &D, name: &[u8], t: ValueType) -> Callee
     ensures { result ≡ plain.callee_on (D.declarations d.now) name.now t }
 {
     match t {
@@ -357,7 +357,7 @@ fn callee_on<D: Declares>(d: &D, name: &[u8], t: ValueType) -> Callee
 }
 
 /// What the name of a method stands for in a class.
-pub(crate) fn callee_by_name<D: Declares>(d: &D, class: u32, name: &[u8]) -> Callee
+pub fn callee_by_name<D: Declares>(d: &D, class: u32, name: &[u8]) -> Callee
     ensures { result ≡ plain.callee_by ((D.declarations d.now).method class name.now) }
 {
     match d.method(class, name) {

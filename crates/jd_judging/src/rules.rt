@@ -111,7 +111,7 @@ pub(crate) fn part_type(operator: InfixOperator) -> Option<ValueType>
 }
 
 /// The type of what an operator gives.
-pub(crate) fn whole_type(operator: InfixOperator) -> ValueType
+pub fn whole_type(operator: InfixOperator) -> ValueType
     ensures { result ≡ plain.whole_type operator }
 {
     match operator {
