@@ -1,0 +1,4 @@
+mod Lists
+mod Splitting
+mod Told
+mod Views
