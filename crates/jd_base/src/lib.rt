@@ -2,6 +2,7 @@
 //! outside: libraries of files that are read, and sinks to which the output is written.
 #![tactic(auto)]
 
+mod arithmetic;
 mod ids;
 mod memory;
 mod memory_files;
@@ -11,6 +12,7 @@ mod real_files;
 mod sort;
 mod whole;
 
+pub use arithmetic::{jdiv, jmod, wrap32};
 pub use ids::{ClassId, FamilyId, FieldId, MethodId};
 pub use memory::{NoMemory, both, copy_bytes};
 pub use memory_files::MemoryLibrary;
