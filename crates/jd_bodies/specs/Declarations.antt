@@ -1,7 +1,9 @@
 -- What the names in bodies stand for in a program.
-use Rattle.std.specs.Prelude.{◌≡◌, ◌<◌, ℕ, ℤ, Bool, List, length, map, Option, Some, None, option_map, MatchOption}
+use Rattle.std.specs.Prelude.{◌≡◌, ◌⊎◌, ℕ, ℤ, Bool, false, List, [], map, Option, Some, None, option_map, MatchOption}
 use Rattle.std.specs.Bool.{Decides}
 use Rattle.std.specs.List.{slice_get}
+use Rattle.std.specs.Option.{option_map_or}
+use Rattle.jd_ancestry.specs.Walks.{parent_of}
 use Rattle.jd_syntax.specs.JavaTypes.{PlainType, IntType, BooleanType, IntArrayType, NamedType}
 use Rattle.jd_syntax.specs.JavaTrees.{JavaUnit}
 use Rattle.jd_jclasses.specs.CallGraph.{DeclaresConstructor, IsConstructorFor}
@@ -82,13 +84,27 @@ signature_of units r = record {
   result = option_map (type_of units) (result_of r.kind);
 }
 
--- these are the answers of the program whose files have these trees
+-- what a number that no routine has is told
+abbrev pub no_signature : Signature
+no_signature = record { class = 0; static = false; parameters = []; result = None }
+
+abbrev pub signature_at : List JavaUnit → ℕ → Signature
+signature_at units m = option_map_or (signature_of units) (slice_get (routines units) m) no_signature
+
+abbrev pub HasNoCommon : List JavaUnit → ℕ → ℕ → Type 0
+HasNoCommon units a b = (other : ℕ) → IsSubclass units a other → IsSubclass units b other → ⊥
+
+-- the nearest class of both, or Object's number where a number is no class's
+abbrev pub IsJoined : List JavaUnit → ℕ → ℕ → ℕ → Type 0
+IsJoined units a b c = IsNearestCommon units a b c ⊎ (HasNoCommon units a b × (c ≡ 0))
+
+-- these are the answers of the program whose files have these trees: what is no class's number extends nothing and has nothing
 pub record AreDeclarations (units : List JavaUnit) (d : Declarations) : Type 0 where
   pub classes_ : (name : List ℕ) → d.class_named name ≡ class_named units name
-  pub parents_ : (c : ℕ) (p : Option ℕ) → slice_get (parents units) c ≡ Some p → d.parent c ≡ p
-  pub subclasses_ : (a b : ℕ) → a < length (parents units) → b < length (parents units) → Decides (d.is_subclass a b) (IsSubclass units a b)
-  pub joined_ : (a b : ℕ) → a < length (parents units) → b < length (parents units) → IsNearestCommon units a b (d.joined a b)
-  pub variables_ : (c : ℕ) (name : List ℕ) → c < length (parents units) → MatchOption (d.variable c name) (HasNoVariable units c name) (IsVariableOf units c name)
-  pub methods_ : (c : ℕ) (name : List ℕ) → c < length (parents units) → MatchOption (d.method c name) (SeesNone units c name) (IsSeen units c name)
-  pub constructors_ : (c : ℕ) → c < length (parents units) → MatchOption (d.constructor c) (RunsNoConstructor units c) (IsConstructorFor units c)
-  pub signatures_ : (m : ℕ) (r : Declared) → slice_get (routines units) m ≡ Some r → d.signature m ≡ signature_of units r
+  pub parents_ : (c : ℕ) → d.parent c ≡ parent_of (parents units) c
+  pub subclasses_ : (a b : ℕ) → Decides (d.is_subclass a b) (IsSubclass units a b)
+  pub joined_ : (a b : ℕ) → IsJoined units a b (d.joined a b)
+  pub variables_ : (c : ℕ) (name : List ℕ) → MatchOption (d.variable c name) (HasNoVariable units c name) (IsVariableOf units c name)
+  pub methods_ : (c : ℕ) (name : List ℕ) → MatchOption (d.method c name) (SeesNone units c name) (IsSeen units c name)
+  pub constructors_ : (c : ℕ) → MatchOption (d.constructor c) (RunsNoConstructor units c) (IsConstructorFor units c)
+  pub signatures_ : (m : ℕ) → d.signature m ≡ signature_at units m
