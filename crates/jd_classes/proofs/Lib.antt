@@ -4,5 +4,5 @@ mod FieldLists
 mod Gathering
 mod Lineages
 mod Looking
-mod NoCycle
+pub mod NoCycle
 mod Refusing

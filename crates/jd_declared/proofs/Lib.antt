@@ -3,8 +3,8 @@ pub mod Declaring
 mod FewRoutines
 mod Listing
 pub mod Lists
-mod Meeting
+pub mod Meeting
 mod Naming
-mod Nearest
+pub mod Nearest
 mod Rooted
 mod Walking

@@ -18,6 +18,40 @@ module _ (parents : List (Option ℕ)) where
       within c other (above_child a b e) = nodes a b e
       within c other (above_parent a b d e above) = within b a above
 
+-- where a walk up from two ends they meet, or it is the topmost
+module _ (parents : List (Option ℕ)) (depths : List ℕ) where
+  abbrev Met : ℕ → ℕ → ℕ → Type 0
+  Met a b c = (Below parents a c × Below parents b c) ⊎ (c ≡ 0)
+
+  above_first : (a b p c : ℕ) → parent_of parents a ≡ Some p → Met p b c → Met a b c
+  above_first a b p c is (inl both) = inl (below_parent parents a p c is both.0, both.1)
+  above_first a b p c is (inr zero) = inr zero
+
+  above_second : (a b p c : ℕ) → parent_of parents b ≡ Some p → Met a p c → Met a b c
+  above_second a b p c is (inl both) = inl (both.0, below_parent parents b p c is both.1)
+  above_second a b p c is (inr zero) = inr zero
+
+  module _ (n a b : ℕ) (rest : (p q : ℕ) → Met p q (meeting parents depths n p q)) where
+    first_met : (up : Option ℕ) → parent_of parents a ≡ up → Met a b (met parents depths (meeting parents depths n) (option_map (λ p. (p, b)) up))
+    first_met None is = inr refl
+    first_met (Some p) is = above_first a b p _ is (rest p b)
+
+    second_met : (up : Option ℕ) → parent_of parents b ≡ up → Met a b (met parents depths (meeting parents depths n) (option_map (λ p. (a, p)) up))
+    second_met None is = inr refl
+    second_met (Some p) is = above_second a b p _ is (rest a p)
+
+    apart_met : (le : Bool) → Met a b (met parents depths (meeting parents depths n) (if le then option_map (λ p. (p, b)) (parent_of parents a) else option_map (λ p. (a, p)) (parent_of parents b)))
+    apart_met true = first_met (parent_of parents a) refl
+    apart_met false = second_met (parent_of parents b) refl
+
+    either_met : (t : Bool) → nat_eq a b ≡ t → Met a b (if t then a else met parents depths (meeting parents depths n) (one_up parents depths a b))
+    either_met true is = let same : b ≡ a = grind (arith, nat_tests, is) in inl (inl refl, inl same)
+    either_met false is = apart_met (nat_le (steps depths b) (steps depths a))
+
+  pub met_or_none : (n a b : ℕ) → Met a b (meeting parents depths n a b)
+  met_or_none zero a b = inr refl
+  met_or_none (suc n) a b = either_met n a b (λ p q. met_or_none n p q) (nat_eq a b) refl
+
 module _ (parents : List (Option ℕ)) (depths : List ℕ) (deep : IsDepths parents depths) where
   deeper : (a b : ℕ) → Above parents a b → slice_index depths a < slice_index depths b
   deeper a b (above_child c d e) = let more = deep.below c d e in omega (arith, more)

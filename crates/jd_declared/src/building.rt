@@ -3,7 +3,7 @@
 ghost use Rattle.std.specs.Prelude.{◌≡◌, ◌∷◌, ◌<◌, ◌≤◌, ℕ, List, [], Option, Some, IfOk, OnOk, length, map, option_map};
 ghost use Rattle.std.specs.List.{slice_get};
 ghost use Rattle.jd_bodies.specs.Declarations.{AreDeclarations, type_by};
-ghost use Rattle.jd_classes.specs.Tables.{AreTables, method_count_of};
+ghost use Rattle.jd_classes.specs.Tables.{AreTables, class_count_of, method_count_of};
 ghost use Rattle.jd_declared.specs.Named.{first_named, then_named, value_at};
 ghost use Rattle.jd_declared.specs.Owned.{constant_pair, field_pairs, methods_in, methods_of, signature_by, variables_in, variables_of};
 ghost use Rattle.jd_declared.specs.Told.{own_value, routine_view, told};
@@ -161,8 +161,9 @@ fn variables_of_each(
     numbers: &Named<u32>,
     classes: &Classes,
 ) -> Result<Vec<Named<Variable>>, NoMemory>
-    ensures { (units : List JavaUnit) → AreTables units classes.now
+    ensures each { (units : List JavaUnit) → AreTables units classes.now
         → IfOk result (λ v. (q : List ℕ) (c : ℕ) → c < length (parents units) → own_value v.items q c ≡ first_named (variables_of units (value_at numbers.now) c) q) }
+    ensures many { IfOk result (λ v. length v.items ≡ class_count_of classes.now) }
 {
     let mut each = Vec::new(alloc);
     for class in 0..classes.class_count() {
@@ -206,8 +207,9 @@ fn own_methods(
 
 // The same of each class.
 fn methods_of_each(alloc: Global, classes: &Classes) -> Result<Vec<Named<u32>>, NoMemory>
-    ensures { (units : List JavaUnit) → AreTables units classes.now
+    ensures each { (units : List JavaUnit) → AreTables units classes.now
         → IfOk result (λ v. (q : List ℕ) (c : ℕ) → c < length (parents units) → own_value v.items q c ≡ first_named (methods_of units c) q) }
+    ensures many { IfOk result (λ v. length v.items ≡ class_count_of classes.now) }
 {
     let mut each = Vec::new(alloc);
     for class in 0..classes.class_count() {

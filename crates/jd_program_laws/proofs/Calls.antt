@@ -262,7 +262,7 @@ module _ (units : List JavaUnit) (are : AreClasses units) (not_static : Construc
     found : Found
     found =
         let first = one_of_name units (members_along units lineage class) m is_member in
-        let r = seen_one class (routine_name units first.0) (d.method class (routine_name units first.0)) (is.are_declarations.methods_ class (routine_name units first.0) is_class) (sees_some (routine_name units first.0) (sym first.2)) in
+        let r = seen_one class (routine_name units first.0) (d.method class (routine_name units first.0)) (is.are_declarations.methods_ class (routine_name units first.0)) (sees_some (routine_name units first.0) (sym first.2)) in
         record {
           number = r.0;
           seen = subst (λ name. IsSeen units class name r.0) first.2 r.2;

@@ -43,7 +43,7 @@ module _ (units : List JavaUnit) (j : JmlProgram) (is : IsProgram units j) where
 
   pub sees : (c : ℕ) → c < length (parents units) → (m : ℕ) (s : Seen c m) → IsSeen units c (routine_name units s.named) m
   sees c lt m s =
-      seen_by c (routine_name units s.named) m (is.declarations.method c (routine_name units s.named)) (is.are_declarations.methods_ c (routine_name units s.named) lt) s.gives
+      seen_by c (routine_name units s.named) m (is.declarations.method c (routine_name units s.named)) (is.are_declarations.methods_ c (routine_name units s.named)) s.gives
 
   -- a case is one of a method or constructor
   pub routine_of : (c m : ℕ) (x : JmlContract) → c < length (parents units) → Origin units lineage is.declarations is.family c m x → Routine units m

@@ -181,7 +181,7 @@ module _ (law : ParentsAreClasses) (of_classes : MembersAreOfClasses) (members :
   found c m r there = subst (λ o. MatchOption (seen_of d (nat_lt c count) c o) (SeesNone units c r.name.name) (IsSeen units c r.name.name)) (sym there) (by (cases_lt c count))
     where
       by : (c < count) ⊎ (count ≤ c) → MatchOption (seen_of d (nat_lt c count) c (Some r)) (SeesNone units c r.name.name) (IsSeen units c r.name.name)
-      by (inl lt) = subst (λ b. MatchOption (seen_of d b c (Some r)) (SeesNone units c r.name.name) (IsSeen units c r.name.name)) (sym (lt_below c count lt)) (are.methods_ c r.name.name lt)
+      by (inl lt) = subst (λ b. MatchOption (seen_of d b c (Some r)) (SeesNone units c r.name.name) (IsSeen units c r.name.name)) (sym (lt_below c count lt)) (are.methods_ c r.name.name)
       by (inr le) = subst (λ b. MatchOption (seen_of d b c (Some r)) (SeesNone units c r.name.name) (IsSeen units c r.name.name)) (sym (not_below c count le)) (none_beyond c r.name.name le)
 
   not_found : (c m : ℕ) → slice_get (routines units) m ≡ None → seen_of d (nat_lt c count) c (slice_get (routines units) m) ≡ None

@@ -2,6 +2,7 @@ use Rattle.std.proofs.Common.{subst, sym, ◌∙◌}
 use Rattle.jd_ancestry.specs.Ancestors.{HasNoCycle}
 use Rattle.jd_ancestry.specs.Depths.{IsDepths}
 use Rattle.jd_declared.proofs.Assembling.{are_declarations}
+use Rattle.jd_declared.proofs.Listing.{class_count}
 use Rattle.jd_declared.proofs.FewRoutines.{few_methods_listed}
 use Rattle.jd_declared.proofs.Meeting.{no_cycle}
 use Rattle.jd_declared.proofs.declared.Declared.of.Goals as goal
@@ -32,8 +33,10 @@ returns c = λ units tables.
       parents_ = c.in_ok-parents.ensures units tables;
       deep = subst (λ ps. IsDepths ps c.in_ok-depths.depths.items) c.deref.ensures.value c.in_ok-depths.ensures;
       classes_ = c.in_ok-numbers.ensures units tables;
-      variables_ = c.in_ok-variables.ensures units tables;
-      methods_ = c.in_ok-methods.ensures units tables;
+      variables_ = c.in_ok-variables.ensures.each units tables;
+      few_variables = c.in_ok-variables.ensures.many ∙ class_count units c.args.classes.now tables;
+      methods_ = c.in_ok-methods.ensures.each units tables;
+      few_methods = c.in_ok-methods.ensures.many ∙ class_count units c.args.classes.now tables;
       constructors_ = c.in_ok-constructors.ensures units tables;
       routines_ = c.in_ok-routines.ensures units tables;
     })
