@@ -12,14 +12,19 @@ use Rattle.jd_files.specs.Laws.{OneFilesRefusal}
 use Rattle.jd_files.specs.Refusals.{AreRefused, PlainRefusal, OfFile, OfClasses, SameRefusal, of_one_file, same, RefusesFiles, class_refusal_of}
 use Rattle.jd_files.specs.declared.refusal.FilesRefusal.{FilesRefusal}
 use Rattle.jd_files.specs.declared.refusal.FilesRefusal.TheVariants as code
+use Rattle.jd_files.specs.Files.{AreProgramClasses, AreTrees}
+use Rattle.jd_jclasses.specs.Refusals.{AreClasses}
+use Rattle.jd_syntax.specs.JavaTrees.{JavaUnit}
+use Rattle.jd_refusals.specs.Laws.{OneTokenRefusal}
+use Rattle.jd_refusals.specs.Refusals.{IsFirst, PlainRefused}
 use Rattle.jd_first_java.specs.Programs.{Program}
 use Rattle.jd_answer.specs.Answers.{SameAnswer, equal, refused_alike}
-use Rattle.jd_answer.specs.FileAnswers.{Tells, of_file, of_class, of_many_classes, of_many_methods, IsRefusal, of_files, of_form}
+use Rattle.jd_answer.specs.FileAnswers.{Tells, of_file, of_class, of_many_classes, of_many_methods, IsRefusal, of_files, of_token, of_form}
 use Rattle.jd_base.specs.declared.memory.NoMemory.{NoMemory}
 use Rattle.jd_answer.specs.declared.answer.Answer.{Answer}
 use Rattle.jd_answer.specs.Refusing.{NamesOneOf, TellsOf, TellsPlace, plain_refusal}
-use Rattle.jd_answer.specs.Reports.{class_kind, class_refusal_text, refusal_text, unbuilt_text}
-use Rattle.jd_answer.specs.Sources.{AreProgram}
+use Rattle.jd_answer.specs.Reports.{class_kind, placed_refusal_text, refusal_text, token_kind, unbuilt_text}
+use Rattle.jd_answer.specs.Sources.{AreProgram, AreProgramFiles}
 use Rattle.jd_answer.specs.Statuses.{IsJudged}
 use Rattle.jd_answer.specs.Words.{word_texts}
 use Rattle.jd_answer.specs.declared.status.Status.{Status}
@@ -43,7 +48,7 @@ word_at words n w text lt is same_text =
     (same_text ∙ ap string_bytes is ∙ sym (get_or-map string_bytes words n w text lt) ∙ ap (λ d. get_or (word_texts words) n d) refl)
 
 -- the name at a place
-pub place_told : (names : List (List ℕ)) (number : ℕ) (name kind text : List ℕ) (at : ℕ) → slice_get names number ≡ Some name → text ≡ class_refusal_text name kind at → TellsPlace names kind number at RefusedSource text
+pub place_told : (names : List (List ℕ)) (number : ℕ) (name kind text : List ℕ) (at : ℕ) → slice_get names number ≡ Some name → text ≡ placed_refusal_text name kind at → TellsPlace names kind number at RefusedSource text
 place_told names number name kind text at named is = record { name = name; named = named; status_ = refl; text_ = is }
 
 -- a file that is none is told by its name
@@ -76,13 +81,13 @@ refusal names files e status text refuses told = of_files told.refusal status te
 one_name : (names : List (List ℕ)) (number : ℕ) (name other : List ℕ) → slice_get names number ≡ Some name → slice_get names number ≡ Some other → name ≡ other
 one_name names number name other is also = same_Some name other (sym is ∙ also)
 
-same_class : (names : List (List ℕ)) (r : classes.Refusal) (name other kind kind' : List ℕ) (n m at at' : ℕ) → class_kind r ≡ Some (kind, (n, at)) → class_kind r ≡ Some (kind', (m, at')) → slice_get names n ≡ Some name → slice_get names m ≡ Some other → SameAnswer RefusedSource (class_refusal_text name kind at) RefusedSource (class_refusal_text other kind' at')
+same_class : (names : List (List ℕ)) (r : classes.Refusal) (name other kind kind' : List ℕ) (n m at at' : ℕ) → class_kind r ≡ Some (kind, (n, at)) → class_kind r ≡ Some (kind', (m, at')) → slice_get names n ≡ Some name → slice_get names m ≡ Some other → SameAnswer RefusedSource (placed_refusal_text name kind at) RefusedSource (placed_refusal_text other kind' at')
 same_class names r name other kind kind' n m at at' is is' named named' =
     let all = same_Some (kind, (n, at)) (kind', (m, at')) (sym is ∙ is') in
     let called : name ≡ other = one_name names m name other (ap (slice_get names) (sym (ap (λ x. x.1.0) all)) ∙ named) named' in
-    let text : class_refusal_text name kind at ≡ class_refusal_text other kind' at' =
-    ap (λ x. class_refusal_text x kind at) called ∙ ap (λ k. class_refusal_text other k at) (ap (λ x. x.0) all) ∙ ap (class_refusal_text other kind') (ap (λ x. x.1.1) all) in
-    subst (λ t. SameAnswer RefusedSource (class_refusal_text name kind at) RefusedSource t) text (equal RefusedSource (class_refusal_text name kind at))
+    let text : placed_refusal_text name kind at ≡ placed_refusal_text other kind' at' =
+    ap (λ x. placed_refusal_text x kind at) called ∙ ap (λ k. placed_refusal_text other k at) (ap (λ x. x.0) all) ∙ ap (placed_refusal_text other kind') (ap (λ x. x.1.1) all) in
+    subst (λ t. SameAnswer RefusedSource (placed_refusal_text name kind at) RefusedSource t) text (equal RefusedSource (placed_refusal_text name kind at))
 
 same_file : (names : List (List ℕ)) (n : ℕ) (name other : List ℕ) (r s : Reason) → SameReason r s → slice_get names n ≡ Some name → slice_get names n ≡ Some other → SameAnswer RefusedSource (refusal_text name r) RefusedSource (refusal_text other s)
 same_file names n name other r s alike named named' =
@@ -106,18 +111,46 @@ one_telling : (names : List (List ℕ)) (r s : PlainRefusal) (status other : Sta
 one_telling names r s status other text another (of_one_file n a b alike) tells tells' = told_alike names n a b status other text another alike tells tells'
 one_telling names r s status other text another (same _) tells tells' = told_the_same names r status other text another tells tells'
 
-module _ (laws : OneFilesRefusal) (names files : List (List ℕ)) where
+are_classes : (files : List (List ℕ)) → AreProgramFiles files → AreProgramClasses files
+are_classes files p = record { units = p.units; trees = p.trees; stand = p.stand }
+
+module _ (laws : OneFilesRefusal) (tokens : OneTokenRefusal) (names files : List (List ℕ)) where
+  -- what is refused of the tokens of files is one, and of a program's nothing
+  one_token : (us vs : List JavaUnit) (r s : Option PlainRefused) → AreTrees files us → AreTrees files vs → AreClasses us → IsFirst us r → IsFirst vs s → r ≡ s
+  one_token us vs r s trees trees' stand first first' = tokens.one us r s stand first (subst (λ l. IsFirst l s) (laws.one_list files vs us trees' trees) first')
+
+  not_refused : (us : List JavaUnit) (r : PlainRefused) → AreTrees files us → AreClasses us → IsFirst us (Some r) → AreProgramFiles files → ⊥
+  not_refused us r trees stand first p = none-some r (sym (one_token us p.units (Some r) None trees p.trees stand first p.none))
+
+  same_token : (us vs : List JavaUnit) (r s : PlainRefused) (name other : List ℕ) → AreTrees files us → AreTrees files vs → AreClasses us → IsFirst us (Some r) → IsFirst vs (Some s) → slice_get names r.file ≡ Some name → slice_get names s.file ≡ Some other
+      → SameAnswer RefusedSource (placed_refusal_text name (token_kind r.why) r.at) RefusedSource (placed_refusal_text other (token_kind s.why) s.at)
+  same_token us vs r s name other trees trees' stand first first' named named' =
+      let same : r ≡ s = same_Some r s (one_token us vs (Some r) (Some s) trees trees' stand first first') in
+      let called : name ≡ other = one_name names s.file name other (subst (λ (x : PlainRefused). slice_get names x.file ≡ Some name) same named) named' in
+      let text : placed_refusal_text name (token_kind r.why) r.at ≡ placed_refusal_text other (token_kind s.why) s.at =
+      ap (λ n. placed_refusal_text n (token_kind r.why) r.at) called ∙ ap (λ (x : PlainRefused). placed_refusal_text other (token_kind x.why) x.at) same in
+      subst (λ t. SameAnswer RefusedSource (placed_refusal_text name (token_kind r.why) r.at) RefusedSource t) text (equal RefusedSource (placed_refusal_text name (token_kind r.why) r.at))
+
+  not_of_files : (us : List JavaUnit) (r : PlainRefusal) → AreTrees files us → AreClasses us → AreRefused files r → ⊥
+  not_of_files us r trees stand refused = laws.not_refused files r (record { units = us; trees = trees; stand = stand }) refused
+
   pub one_refusal : (status other : Status) (text another : List ℕ) → IsRefusal names files status text → IsRefusal names files other another → SameAnswer status text other another
   one_refusal status other text another (of_files r _ _ refused tells) (of_files s _ _ refused' tells') = one_telling names r s status other text another (laws.one files r s refused refused') tells tells'
-  one_refusal status other text another (of_files r _ _ refused tells) (of_form first others is stand none) = absurd (laws.not_refused files r stand refused)
-  one_refusal status other text another (of_form first others is stand none) (of_files r _ _ refused tells) = absurd (laws.not_refused files r stand refused)
+  one_refusal status other text another (of_files r _ _ refused tells) (of_token us s name trees stand first named) = absurd (not_of_files us r trees stand refused)
+  one_refusal status other text another (of_files r _ _ refused tells) (of_form first others is stand none) = absurd (laws.not_refused files r (are_classes files stand) refused)
+  one_refusal status other text another (of_token us s name trees stand first named) (of_files r _ _ refused tells) = absurd (not_of_files us r trees stand refused)
+  one_refusal status other text another (of_token us r name trees stand first named) (of_token vs s name' trees' stand' first' named') = same_token us vs r s name name' trees trees' stand first first' named named'
+  one_refusal status other text another (of_token us r name trees stand first named) (of_form name' others is stands none) = absurd (not_refused us r trees stand first stands)
+  one_refusal status other text another (of_form first others is stand none) (of_files r _ _ refused tells) = absurd (laws.not_refused files r (are_classes files stand) refused)
+  one_refusal status other text another (of_form name others is stands none) (of_token us r name' trees stand first named) = absurd (not_refused us r trees stand first stands)
   one_refusal status other text another (of_form first others is stand none) (of_form first' others' is' stand' none') =
       let same_names : first ∷ others ≡ first' ∷ others' = sym is ∙ is' in
       let heads : first ≡ first' = let both = same_names in cc in
       subst (λ n. SameAnswer RefusedSource (unbuilt_text first) RefusedSource (unbuilt_text n)) heads (equal RefusedSource (unbuilt_text first))
 
   pub no_program : (status : Status) (text : List ℕ) (q : Program) → IsRefusal names files status text → AreProgram files q → ⊥
-  no_program status text q (of_files r _ _ refused tells) program = laws.not_refused files r program.classes refused
+  no_program status text q (of_files r _ _ refused tells) program = laws.not_refused files r (are_classes files program.resolved) refused
+  no_program status text q (of_token us r name trees stand first named) program = not_refused us r trees stand first program.resolved
   no_program status text q (of_form first others is stand none) program = none q program
 
 -- ---- the status of a refusal
@@ -130,6 +163,7 @@ tells_status names r status text of_many_methods = inr refl
 
 pub refusal_status : (names files : List (List ℕ)) (status : Status) (text : List ℕ) → IsRefusal names files status text → (status ≡ RefusedSource) ⊎ (status ≡ Limit)
 refusal_status names files status text (of_files r _ _ refused tells) = tells_status names r status text tells
+refusal_status names files status text (of_token us r name trees stand first named) = inl refl
 refusal_status names files status text (of_form name others is stand none) = inl refl
 
 pub refusal_is_judged : (names files : List (List ℕ)) (status : Status) (text : List ℕ) → IsRefusal names files status text → IsJudged status

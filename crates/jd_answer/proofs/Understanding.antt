@@ -10,21 +10,30 @@ use Rattle.jd_first_java.specs.declared.syntax.Program as code
 use Rattle.jd_first_java.specs.Reads.{Answers, program_view}
 use Rattle.jd_first_java.specs.Programs.{Program}
 use Rattle.jd_first_java.specs.Reads as java
-use Rattle.jd_answer.specs.FileAnswers.{IsRefusal, of_form}
+use Rattle.jd_syntax.specs.JavaTrees.{JavaUnit}
+use Rattle.jd_answer.specs.FileAnswers.{IsRefusal, of_form, of_token}
 use Rattle.jd_answer.specs.Reports.{unbuilt_text}
-use Rattle.jd_answer.specs.Sources.{AreProgram}
-use Rattle.jd_files.specs.Files.{AreProgramClasses, HaveTables}
+use Rattle.jd_answer.specs.Refusing.{TellsToken}
+use Rattle.jd_answer.specs.Sources.{AreProgram, AreProgramFiles}
+use Rattle.jd_answer.specs.Understanding.{AreResolved}
+use Rattle.jd_answer.specs.declared.status.Status.{Status}
+use Rattle.jd_files.specs.Files.{HaveTables}
 use Rattle.jd_classes.specs.declared.classes.Classes.{Classes}
 use Rattle.jd_answer.specs.Understanding.{IsNoProgram, IsOneProgram}
 use Rattle.jd_answer.specs.declared.status.Status.TheVariants.{RefusedSource}
 
-pub have_classes : (files : List (List ℕ)) (c : Classes) → HaveTables files c → AreProgramClasses files
-have_classes files c t = record { units = t.units; trees = t.trees; stand = t.tables.stand }
+pub are_program_files : (files : List (List ℕ)) (c : Classes) → AreResolved files c → AreProgramFiles files
+are_program_files files c t = record { units = t.have.units; trees = t.have.trees; stand = t.have.tables.stand; none = t.none }
 
-pub is_program : (files : List (List ℕ)) (q : Program) → AreProgramClasses files → IsOneProgram files q → AreProgram files q
-is_program files q classes one = record { classes = classes; file = one.file; one = one.one; reads = one.reads }
+-- a refused token
+pub has_refused_token : (names files : List (List ℕ)) (c : Classes) (status : Status) (text : List ℕ) (t : HaveTables files c) → TellsToken names t.units status text → IsRefusal names files status text
+has_refused_token names files c status text t told =
+    rw (told.tells.status_, told.tells.text_) (of_token t.units told.refused told.tells.name t.trees t.tables.stand told.first told.tells.named)
 
-pub is_no_program : (names files : List (List ℕ)) (name text : List ℕ) → slice_get names 0 ≡ Some name → AreProgramClasses files → IsNoProgram files → text ≡ unbuilt_text name → IsRefusal names files RefusedSource text
+pub is_program : (files : List (List ℕ)) (q : Program) → AreProgramFiles files → IsOneProgram files q → AreProgram files q
+is_program files q resolved one = record { resolved = resolved; file = one.file; one = one.one; reads = one.reads }
+
+pub is_no_program : (names files : List (List ℕ)) (name text : List ℕ) → slice_get names 0 ≡ Some name → AreProgramFiles files → IsNoProgram files → text ≡ unbuilt_text name → IsRefusal names files RefusedSource text
 is_no_program [] files name text first classes none is = absurd (none-some name first)
 is_no_program (n ∷ others) files name text first classes none is =
     rw is (of_form name others (ap (λ m. m ∷ others) (same_Some n name first)) classes (λ q program. none program.file q program.one program.reads))

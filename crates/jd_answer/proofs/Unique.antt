@@ -17,6 +17,7 @@ use Rattle.jd_first_oblig.specs.Obligations.{obligation_name, obligation_sequent
 use Rattle.jd_answer.specs.Words.{replay_words}
 use Rattle.jd_files.specs.Files.{file_limit, files_limit}
 use Rattle.jd_files.specs.Laws.{OneFilesRefusal}
+use Rattle.jd_refusals.specs.Laws.{OneTokenRefusal}
 use Rattle.jd_answer.specs.FileAnswers.{IsRefusal}
 use Rattle.jd_answer.specs.Sources.{AreProgram}
 use Rattle.jd_answer.specs.Reports.{IsReport, missing, closed, opened, broken, closed_text, open_text, bad_text, usage_text, script_kind, unknown_kind, script_refusal_text, files_limit_text, proof_limit_text, file_limit_text}
@@ -134,11 +135,11 @@ pub data IsJudgedAs (leads : Program → PlainSequent → PlainStep → List Pla
   not_understood : (status : Status) (text : List ℕ) → IsRefusal names files status text → IsJudgedAs leads causes proof bytes names files status text
   answered : (q : Program) (status : Status) (text : List ℕ) → AreProgram files q → IsProofAnswer (leads q) (causes q) q proof bytes status text → IsJudgedAs leads causes proof bytes names files status text
 
-module _ (leads : Program → PlainSequent → PlainStep → List PlainSequent → Type 0) (causes : Program → PlainSequent → PlainStep → ℕ → Type 0) (one : OneProgramAnswer leads causes) (laws : OneFilesRefusal) where
+module _ (leads : Program → PlainSequent → PlainStep → List PlainSequent → Type 0) (causes : Program → PlainSequent → PlainStep → ℕ → Type 0) (one : OneProgramAnswer leads causes) (laws : OneFilesRefusal) (tokens : OneTokenRefusal) where
   one_judgement : (proof bytes : List ℕ) (names files : List (List ℕ)) (status other : Status) (text another : List ℕ) → All (λ f. length f ≤ file_limit) files → IsJudgedAs leads causes proof bytes names files status text → IsJudgedAs leads causes proof bytes names files other another → SameAnswer status text other another
-  one_judgement proof bytes names files status other text another small (not_understood _ _ refusal) (not_understood _ _ refusal') = one_refusal laws names files status other text another refusal refusal'
-  one_judgement proof bytes names files status other text another small (not_understood _ _ refusal) (answered q _ _ program answer) = absurd (no_program laws names files status text q refusal program)
-  one_judgement proof bytes names files status other text another small (answered q _ _ program answer) (not_understood _ _ refusal) = absurd (no_program laws names files other another q refusal program)
+  one_judgement proof bytes names files status other text another small (not_understood _ _ refusal) (not_understood _ _ refusal') = one_refusal laws tokens names files status other text another refusal refusal'
+  one_judgement proof bytes names files status other text another small (not_understood _ _ refusal) (answered q _ _ program answer) = absurd (no_program laws tokens names files status text q refusal program)
+  one_judgement proof bytes names files status other text another small (answered q _ _ program answer) (not_understood _ _ refusal) = absurd (no_program laws tokens names files other another q refusal program)
   one_judgement proof bytes names files status other text another small (answered q _ _ program answer) (answered q' _ _ program' answer') =
       let files_same : program.file ∷ [] ≡ program'.file ∷ [] = sym program.one ∙ program'.one in
       let same : program'.file ≡ program.file = let back = sym files_same in cc in

@@ -5,8 +5,10 @@ use Rattle.jd_source.specs.Sources.{reason_of}
 use Rattle.jd_files.specs.Refusals.{IsInFiles, PlainRefusal, OfFile, OfClasses, class_refusal_of}
 use Rattle.jd_files.specs.declared.refusal.FilesRefusal.{FilesRefusal}
 use Rattle.jd_files.specs.declared.refusal.FilesRefusal.TheVariants as code
+use Rattle.jd_syntax.specs.JavaTrees.{JavaUnit}
+use Rattle.jd_refusals.specs.Refusals.{IsFirst, PlainRefused}
 use Rattle.jd_answer.specs.FileAnswers.{Tells}
-use Rattle.jd_answer.specs.Reports.{class_refusal_text}
+use Rattle.jd_answer.specs.Reports.{placed_refusal_text, token_kind}
 use Rattle.jd_answer.specs.declared.status.Status.{Status}
 use Rattle.jd_answer.specs.declared.status.Status.TheVariants.{RefusedSource}
 
@@ -33,4 +35,10 @@ pub record TellsPlace (names : List (List ℕ)) (kind : List ℕ) (number at : �
   pub name : List ℕ
   pub named : slice_get names number ≡ Some name
   pub status_ : status ≡ RefusedSource
-  pub text_ : text ≡ class_refusal_text name kind at
+  pub text_ : text ≡ placed_refusal_text name kind at
+
+-- they tell of the first refused token
+pub record TellsToken (names : List (List ℕ)) (units : List JavaUnit) (status : Status) (text : List ℕ) : Type 0 where
+  pub refused : PlainRefused
+  pub first : IsFirst units (Some refused)
+  pub tells : TellsPlace names (token_kind refused.why) refused.file refused.at status text

@@ -16,6 +16,12 @@ use Rattle.jd_replay.specs.declared.verdict.Cause.TheVariants.{Rule, BranchCount
 use Rattle.jd_replay.specs.FirstBad.{FirstBad}
 use Rattle.jd_scripts.specs.Answers as script
 use Rattle.jd_scripts.specs.Answers.{Answer}
+use Rattle.jd_bodies.specs.declared.fault.Cause.{Cause as BodyCause}
+use Rattle.jd_bodies.specs.declared.fault.Cause.TheVariants as body
+use Rattle.jd_specifications.specs.declared.fault.SpecCause.{SpecCause}
+use Rattle.jd_specifications.specs.declared.fault.SpecCause.TheVariants as jml
+use Rattle.jd_refusals.specs.declared.refused.Refusal.{Refusal as TokenRefusal}
+use Rattle.jd_refusals.specs.declared.refused.Refusal.TheVariants.{Body, Jml}
 use Rattle.jd_answer.specs.declared.status.Status.{Status}
 use Rattle.jd_answer.specs.declared.status.Status.TheVariants.{Done, NotAccepted}
 
@@ -62,8 +68,32 @@ class_kind (classes.BadOverride file at) = Some (codes "BadOverride", (file, at)
 class_kind classes.ManyClasses = None
 class_kind classes.ManyMethods = None
 
-abbrev pub class_refusal_text : List ℕ → List ℕ → ℕ → List ℕ
-class_refusal_text name kind at = line (codes "refused " ++ (name ++ (32 ∷ placed_text kind at)))
+abbrev pub placed_refusal_text : List ℕ → List ℕ → ℕ → List ℕ
+placed_refusal_text name kind at = line (codes "refused " ++ (name ++ (32 ∷ placed_text kind at)))
+
+-- the kind of a refusal of a token of a body, and of JML
+abbrev pub body_kind : BodyCause → List ℕ
+body_kind body.UnknownName = codes "UnknownName"
+body_kind body.UnknownClass = codes "UnknownClass"
+body_kind body.UnknownMethod = codes "UnknownMethod"
+body_kind body.TypeMismatch = codes "TypeMismatch"
+body_kind body.WrongArity = codes "WrongArity"
+body_kind body.BadTarget = codes "BadTarget"
+body_kind body.BadLabel = codes "BadLabel"
+body_kind body.Redeclared = codes "Redeclared"
+
+abbrev pub jml_kind : SpecCause → List ℕ
+jml_kind jml.UnknownName = codes "UnknownName"
+jml_kind jml.TypeMismatch = codes "TypeMismatch"
+jml_kind jml.ResultHere = codes "ResultHere"
+jml_kind jml.OldHere = codes "OldHere"
+jml_kind jml.InvariantRecursion = codes "InvariantRecursion"
+jml_kind jml.CallInSpec = codes "CallInSpec"
+jml_kind jml.BadClause = codes "BadClause"
+
+abbrev pub token_kind : TokenRefusal → List ℕ
+token_kind (Body cause) = body_kind cause
+token_kind (Jml cause) = jml_kind cause
 
 -- the kind of a refusal of a proof file; none where it is read, and none of a limit
 abbrev pub script_kind : Answer → Option (List ℕ)

@@ -16,11 +16,12 @@ ghost use Rattle.jd_answer.specs.Answers.{AcceptsObligations, leads_of, causes_o
 ghost use Rattle.jd_answer.specs.Statuses.{IsJudged, IsWritten};
 ghost use Rattle.jd_answer.specs.FileAnswers.{IsRefusal};
 ghost use Rattle.jd_answer.specs.ReadFaults.{AreSteady, IsReadFault, HasMoreFaults, HasRisen, NamesSteady};
-ghost use Rattle.jd_answer.specs.Understanding.{IsNoProgram, IsOneProgram, IsUnderstood};
+ghost use Rattle.jd_answer.specs.Understanding.{AreResolved, IsNoProgram, IsOneProgram, IsUnderstood};
 ghost use Rattle.jd_answer.specs.declared.status.Status.{Status};
 ghost use Rattle.jd_answer.specs.declared.answer.Stop.TheVariants.{NoMemory as OutOfMemory};
 
 use crate::java::refused;
+use crate::token::refused_token;
 use crate::report::{missing, status_of, text_of};
 use crate::script::{proof_of, unread};
 use crate::status::Status;
@@ -31,6 +32,7 @@ use jd_classes::Classes;
 use jd_files::{classes_of, one_refusal};
 use jd_first_java::{Program, read_program};
 use jd_first_oblig::{contracts, name_of, obligation};
+use jd_refusals::one_refusal as one_token_refusal;
 use jd_replay::{Verdict, replay};
 use jd_sequent::{RuleSet, ScriptTree, Task};
 use std::alloc::{AllocFailed, Global};
@@ -167,6 +169,22 @@ pub enum Understood {
     Refused(Answer),
 }
 
+// The tables, where no token of a body or of JML is refused; else the answer.
+fn resolved(
+    alloc: Global,
+    names: &[String],
+    classes: Classes,
+) -> Result<Result<Classes, Answer>, NoMemory>
+    requires { (files : List (List ℕ)) × HaveTables files classes × (length files ≡ length names.now) }
+    ensures { (files : List (List ℕ)) → HaveTables files classes → IfOk result (λ r. MatchResult r (AreResolved files)
+        (λ a. IsRefusal (word_texts names.now) files a.status a.text.items)) }
+{
+    match refused_token(alloc, names, &classes)? {
+        None => Ok(Ok(classes)),
+        Some(answer) => Ok(Err(answer)),
+    }
+}
+
 // The tables of the classes of Java files of these names; the answer where they are no program's.
 fn tables_of(
     alloc: Global,
@@ -176,11 +194,11 @@ fn tables_of(
     requires few { length names.now ≤ files_limit }
     requires each { length names.now ≡ length files.now }
     requires within { All (λ f. length f.items ≤ file_limit) files.now }
-    ensures { IfOk result (λ r. MatchResult r (HaveTables (map (λ f. f.items) files.now))
+    ensures { IfOk result (λ r. MatchResult r (AreResolved (map (λ f. f.items) files.now))
         (λ a. IsRefusal (word_texts names.now) (map (λ f. f.items) files.now) a.status a.text.items)) }
 {
     match classes_of(alloc, files) {
-        Ok(classes) => Ok(Ok(classes)),
+        Ok(classes) => resolved(alloc, names, classes),
         Err(refusal) => Ok(Err(refused(alloc, names, refusal)?)),
     }
 }
@@ -382,4 +400,5 @@ pub fn one_answer<R: RuleSet>(_rules: &R)
         → SameAnswer status text other another }
 {
     one_refusal();
+    one_token_refusal();
 }

@@ -5,7 +5,7 @@ ghost use Rattle.jd_source.specs.Sources.{reason_of};
 ghost use Rattle.jd_source.specs.declared.read.SourceRefusal.TheVariants.{Lexical, Grammatical};
 ghost use Rattle.jd_files.specs.Refusals.{IsInFiles, OfClasses, OfFile, class_refusal_of};
 ghost use Rattle.jd_answer.specs.Refusing.{NamesOneOf, TellsOf, TellsPlace, plain_refusal};
-ghost use Rattle.jd_answer.specs.Reports.{class_refusal_text, placed_text, reason_text, refusal_text};
+ghost use Rattle.jd_answer.specs.Reports.{placed_refusal_text, placed_text, reason_text, refusal_text};
 ghost use Rattle.jd_answer.specs.Words.{word_texts};
 
 use crate::answer::Answer;
@@ -80,7 +80,7 @@ fn refusal_line(alloc: Global, name: &[u8], refusal: &SourceRefusal) -> Result<V
 
 // The line that tells why classes are refused.
 fn class_refusal_line(alloc: Global, name: &[u8], kind: &[u8], at: u32) -> Result<Vec<u8>, NoMemory>
-    ensures { IfOk result (λ v. v.items ≡ class_refusal_text name.now kind.now at) }
+    ensures { IfOk result (λ v. v.items ≡ placed_refusal_text name.now kind.now at) }
 {
     let mut out = copy_bytes(alloc, b"refused ")?;
     out.extend_from_slice(name)?;
@@ -91,7 +91,7 @@ fn class_refusal_line(alloc: Global, name: &[u8], kind: &[u8], at: u32) -> Resul
 }
 
 // The answer for a refusal of classes that has a place in the file of this number.
-fn placed(
+pub(crate) fn placed(
     alloc: Global,
     names: &[String],
     kind: &[u8],

@@ -7,6 +7,7 @@ mod report;
 mod script;
 mod status;
 mod text;
+mod token;
 mod words;
 
 pub use answer::{Answer, Stop, answer_to, one_answer};

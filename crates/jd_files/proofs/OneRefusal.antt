@@ -62,7 +62,7 @@ module _ (laws : FileLaws) where
   all_files files units n r trees (for_text f one) = tokens_faultless one.bytes f (tokens_at files n one.bytes (all_have_tokens files units trees) one.there) one.reason
   all_files files units n r trees (for_grammar _ all one) = file_reasonless one.bytes r (file_at files units n one.bytes trees one.there) one.reason
 
-  one_list : (files : List (List ℕ)) (us vs : List JavaUnit) → AreTrees files us → AreTrees files vs → us ≡ vs
+  pub one_list : (files : List (List ℕ)) (us vs : List JavaUnit) → AreTrees files us → AreTrees files vs → us ≡ vs
   one_list [] [] [] are other = refl
   one_list [] [] (v ∷ vs) are other = absurd other
   one_list [] (u ∷ us) vs are other = absurd are

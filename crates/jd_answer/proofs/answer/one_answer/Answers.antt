@@ -9,4 +9,4 @@ returns g c =
       λ q s p ps qs l m. g.met.R.RuleSet.one_way c.args._rules.now (task_of q) s p ps qs l.0 m.0,
       λ q s p ps n l h. g.met.R.RuleSet.has_no_cause c.args._rules.now (task_of q) s p ps n l h,
     )
-    c.one_refusal.ensures
+    c.one_refusal.ensures c.one_refusal-2.ensures
