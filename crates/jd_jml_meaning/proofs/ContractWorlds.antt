@@ -47,7 +47,7 @@ all_blank : (xs : List Name) → IsBlank empty_state xs
 all_blank [] = tt
 all_blank (x ∷ xs) = (read-none x, all_blank xs)
 
-result_sort : (k : Sort) → (result_variable k).sort ≡ k
+pub result_sort : (k : Sort) → (result_variable k).sort ≡ k
 result_sort IntSort = refl
 result_sort BoolSort = refl
 result_sort RefSort = refl

@@ -1,0 +1,4 @@
+pub mod Alike
+pub mod Typed
+pub mod Tight
+pub mod Standing
