@@ -20,7 +20,6 @@ use Rattle.jd_model.specs.Cases.{DeclaredType, Parameter, Role, Static, Ordinary
 use Rattle.jd_model.specs.EntryExit.{AreOf, Receiver, RoleFields, is_of, is_one_of, AllOneOf}
 use Rattle.jd_model.specs.Tables.{SortsOf, loosened, members, parameter_constant, constants_of_parameters, receiver_in}
 use Rattle.jd_model.proofs.Writes.{read_back}
-use Rattle.jd_oblig.proofs.Members.{front_true, back_true, join_true}
 use Rattle.jd_jml_meaning.proofs.Spelled.{iff_same, and_iff, imp_iff, either_iff, iff_then, bit_iff}
 use Rattle.jd_jml_meaning.proofs.Located.{either_true, alone_true}
 use Rattle.jd_case_rows.specs.Laws.{Listed}
@@ -28,10 +27,11 @@ use Rattle.jd_case_rows.specs.Rows.{or_null, value_members, typed_members, recei
 
 -- lists that are joined are true together
 pub joined_iff : (g : Setting) (d : ℕ) (i s : State) (l m : List PlainFormula) {A B : Type 0} → AllTrue g d i s [] l ↔ A → AllTrue g d i s [] m ↔ B → AllTrue g d i s [] (l ++ m) ↔ (A × B)
-joined_iff g d i s l m h k = (
-  λ x. (h.0 (front_true g d i s l m x), k.0 (back_true g d i s l m x)),
-  λ y. join_true g d i s l m (h.1 y.0) (k.1 y.1),
-)
+joined_iff g d i s l m h k = iff_then (parted l) (and_iff h k)
+  where
+    parted : (l : List PlainFormula) → AllTrue g d i s [] (l ++ m) ↔ (AllTrue g d i s [] l × AllTrue g d i s [] m)
+    parted [] = (λ x. (tt, x), λ y. y.1)
+    parted (a ∷ l) = (λ x. let y = (parted l).0 x.1 in ((x.0, y.0), y.1), λ y. (y.0.0, (parted l).1 (y.0.1, y.1)))
 
 -- one member alone
 pub alone : {A B : Type 0} → A ↔ B → (A × Unit {0}) ↔ B

@@ -8,10 +8,9 @@ use Rattle.jd_ancestry.specs.Ancestors.Above.{above_child, above_parent}
 use Rattle.jd_syntax.specs.JavaTrees.{JavaUnit}
 use Rattle.jd_jclasses.specs.CallGraph.{DeclaresConstructor}
 use Rattle.jd_jclasses.specs.Classes.{IsSubclass, parents}
-use Rattle.jd_jclasses.specs.Members.{Declared, declared_members, is_constructor, is_field, is_method, is_routine, is_variable}
-use Rattle.jd_jclasses.specs.Methods.{Declares, fields, routines}
-use Rattle.jd_jclasses.specs.Refusals.{AreClasses, AreMethodsOfName, IsSecondMember, SameName}
-use Rattle.jd_jseen.proofs.Routines.{kept, routines_are_members}
+use Rattle.jd_jclasses.specs.Members.{Declared, declared_members, is_routine, is_variable}
+use Rattle.jd_jclasses.specs.Refusals.{AreClasses, IsSecondMember, SameName}
+use Rattle.jd_jseen.proofs.Routines.{kept}
 use Rattle.jd_classes.proofs.NoCycle.{no_cycle}
 
 module _ (units : List JavaUnit) (stand : AreClasses units) where
@@ -60,9 +59,6 @@ module _ (units : List JavaUnit) (stand : AreClasses units) where
       by (inr le) (inl lt) = absurd (none j i b a lt other there back)
       by (inr le) (inr le') = omega (arith, le, le')
 
-  same_name : (a b : Declared) → SameName a b → SameName b a
-  same_name a b e = sym e
-
   -- a variable that a class sees by a name
   pub record Variable (class : ℕ) (name : List ℕ) : Type 0 where
     pub place : ℕ
@@ -78,9 +74,6 @@ module _ (units : List JavaUnit) (stand : AreClasses units) where
       names : SameName v.one w.one
       names = v.named ∙ sym w.named
 
-      second : (a b : Declared) → v.one.class ≡ w.one.class → IsSecondMember v.one w.one
-      second a b same = (same, inl (v.is, w.is, names))
-
       by : InLine v.one.class w.one.class → v.place ≡ w.place
       by (inl same) =
           either_way IsSecondMember (λ i j a b lt there other h. stand.members.members j (record { place = i; earlier = lt; other = a; one = b; other_there = there; there = other; holds = h }))
@@ -92,19 +85,6 @@ module _ (units : List JavaUnit) (stand : AreClasses units) where
 
   at_same_place : (i j m n : ℕ) → i ≡ j → m ≡ length (filter (λ (x : Declared). is_routine x.kind) (take i (declared_members units))) → n ≡ length (filter (λ (x : Declared). is_routine x.kind) (take j (declared_members units))) → m ≡ n
   at_same_place i j m n same e f = e ∙ ap (λ k. length (filter (λ (x : Declared). is_routine x.kind) (take k (declared_members units)))) same ∙ sym f
-
-  pub one_method : (class : ℕ) (name : List ℕ) (m n : ℕ) → Declares units class name m → Declares units class name n → m ≡ n
-  one_method class name m n one other =
-      let a = kept (λ (x : Declared). is_routine x.kind) (declared_members units) m one.routine one.there in
-      let b = kept (λ (x : Declared). is_routine x.kind) (declared_members units) n other.routine other.there in
-      let classes : one.routine.class ≡ other.routine.class = one.holds.1 ∙ sym other.holds.1 in
-      let names : SameName one.routine other.routine = one.holds.2 ∙ sym other.holds.2 in
-      let both : AreMethodsOfName one.routine other.routine = (one.holds.0, other.holds.0, names) in
-      let back : AreMethodsOfName other.routine one.routine = (other.holds.0, one.holds.0, sym names) in
-      at_same_place a.i b.i m n
-      (either_way (λ x y. (x.class ≡ y.class) × AreMethodsOfName x y) (λ i j x y lt there at h. stand.members.overloads j (inl (record { place = i; earlier = lt; other = x; one = y; other_there = there; there = at; holds = h })))
-      a.i b.i one.routine other.routine a.there b.there (classes, both) (sym classes, back))
-      a.number b.number
 
   pub one_constructor : (class m n : ℕ) → DeclaresConstructor units class m → DeclaresConstructor units class n → m ≡ n
   one_constructor class m n one other =

@@ -9,7 +9,8 @@ use Rattle.jd_syntax.specs.JavaTrees.{JavaUnit}
 use Rattle.jd_jclasses.specs.CallGraph.{DeclaresConstructor, IsConstructorFor}
 use Rattle.jd_jclasses.specs.Classes.{IsSubclass}
 use Rattle.jd_jclasses.specs.Members.{Declared, Kind, FieldOf, ConstantOf, RoutineOf, declared_members, is_field, is_variable}
-use Rattle.jd_jclasses.specs.Methods.{Declares, IsSeen, SeesNone, fields}
+use Rattle.jd_jclasses.specs.Laws.{OneMethod}
+use Rattle.jd_jclasses.specs.Methods.{IsSeen, fields}
 use Rattle.jd_jclasses.specs.Refusals.{AreClasses}
 use Rattle.jd_jseen.proofs.Routines.{kept}
 use Rattle.jd_bodies.specs.Declarations.{AreDeclarations, Declarations, HasNoVariable, IsJoined, IsVariableOf, RunsNoConstructor, Signature, type_of}
@@ -17,7 +18,7 @@ use Rattle.jd_bodies.specs.Declarations.IsVariableOf.{a_constant, a_field}
 use Rattle.jd_bodies.specs.declared.value.Variable.{Variable}
 use Rattle.jd_bodies.specs.declared.value.Variable.TheVariants as variables
 use Rattle.jd_declaration_laws.proofs.Members as seen
-use Rattle.jd_declaration_laws.proofs.Members.{each_other, one_constructor, one_method, one_variable}
+use Rattle.jd_declaration_laws.proofs.Members.{each_other, one_constructor, one_variable}
 
 -- two tests of one thing
 one_test : {P : Type 0} (a b : Bool) → Decides a P → Decides b P → a ≡ b
@@ -33,7 +34,7 @@ one_of apart same None (Some y) h g = absurd (apart y h g)
 one_of apart same (Some x) None h g = absurd (apart x g h)
 one_of apart same (Some x) (Some y) h g = ap Some (same x y h g)
 
-module _ (units : List JavaUnit) (stand : AreClasses units) where
+module _ (methods : OneMethod) (units : List JavaUnit) (stand : AreClasses units) where
   -- ---- the class where two meet
 
   one_joined : (a b c k : ℕ) → IsJoined units a b c → IsJoined units a b k → c ≡ k
@@ -78,9 +79,7 @@ module _ (units : List JavaUnit) (stand : AreClasses units) where
   -- ---- methods and constructors
 
   same_method : (class : ℕ) (name : List ℕ) (m n : ℕ) → IsSeen units class name m → IsSeen units class name n → m ≡ n
-  same_method class name m n h g =
-      let owners = each_other units stand h.owner g.owner (h.nearest g.owner n g.inherited g.declared) (g.nearest h.owner m h.inherited h.declared) in
-      one_method units stand g.owner name m n (subst (λ c. Declares units c name m) owners h.declared) g.declared
+  same_method class name m n h g = methods.one_seen units class name m n stand h g
 
   same_constructor : (class m n : ℕ) → IsConstructorFor units class m → IsConstructorFor units class n → m ≡ n
   same_constructor class m n h g =
@@ -105,8 +104,8 @@ module _ (units : List JavaUnit) (stand : AreClasses units) where
     named : d.variable ≡ e.variable
     named = fun_ext (λ c. fun_ext (λ name. one_of (λ v none is. none v is) (same_variable c name) (d.variable c name) (e.variable c name) (of_d.variables_ c name) (of_e.variables_ c name)))
 
-    methods : d.method ≡ e.method
-    methods = fun_ext (λ c. fun_ext (λ name. one_of (λ m none is. none is.owner m is.inherited is.declared) (same_method c name) (d.method c name) (e.method c name) (of_d.methods_ c name) (of_e.methods_ c name)))
+    seen_methods : d.method ≡ e.method
+    seen_methods = fun_ext (λ c. fun_ext (λ name. one_of (λ m none is. none is.owner m is.inherited is.declared) (same_method c name) (d.method c name) (e.method c name) (of_d.methods_ c name) (of_e.methods_ c name)))
 
     constructors : d.constructor ≡ e.constructor
     constructors = fun_ext (λ c. one_of (λ m none is. none is.owner m is.inherited is.declared) (same_constructor c) (d.constructor c) (e.constructor c) (of_d.constructors_ c) (of_e.constructors_ c))
@@ -121,6 +120,6 @@ module _ (units : List JavaUnit) (stand : AreClasses units) where
         ∙ ap (λ x. record { class_named = e.class_named; parent = e.parent; is_subclass = x; joined = d.joined; variable = d.variable; method = d.method; constructor = d.constructor; signature = d.signature }) subclasses
         ∙ ap (λ x. record { class_named = e.class_named; parent = e.parent; is_subclass = e.is_subclass; joined = x; variable = d.variable; method = d.method; constructor = d.constructor; signature = d.signature }) joins
         ∙ ap (λ x. record { class_named = e.class_named; parent = e.parent; is_subclass = e.is_subclass; joined = e.joined; variable = x; method = d.method; constructor = d.constructor; signature = d.signature }) named
-        ∙ ap (λ x. record { class_named = e.class_named; parent = e.parent; is_subclass = e.is_subclass; joined = e.joined; variable = e.variable; method = x; constructor = d.constructor; signature = d.signature }) methods
+        ∙ ap (λ x. record { class_named = e.class_named; parent = e.parent; is_subclass = e.is_subclass; joined = e.joined; variable = e.variable; method = x; constructor = d.constructor; signature = d.signature }) seen_methods
         ∙ ap (λ x. record { class_named = e.class_named; parent = e.parent; is_subclass = e.is_subclass; joined = e.joined; variable = e.variable; method = e.method; constructor = x; signature = d.signature }) constructors
         ∙ ap (λ x. record { class_named = e.class_named; parent = e.parent; is_subclass = e.is_subclass; joined = e.joined; variable = e.variable; method = e.method; constructor = e.constructor; signature = x }) signatures
