@@ -36,7 +36,7 @@ no_mark (b ∷ bs) e = by (b == 39) e (no_mark bs)
     by true e rest = absurd cc
     by false e rest = ap (λ l. b ∷ l) (rest e)
 
-abbrev constant_for : List ℕ → Sort → Name
+abbrev pub constant_for : List ℕ → Sort → Name
 constant_for x s = parameter_constant (record { text = x; sort = s })
 
 behind_letter : (s : Sort) (x y : List ℕ) → (constant_for x s).text ≡ (constant_for y s).text → source_name x ≡ source_name y
@@ -55,7 +55,7 @@ constants_tell x y s t p q e =
     let texts : (constant_for x s).text ≡ (constant_for y s).text = ap (λ (n : Name). n.text) e ∙ ap (λ k. (constant_for y k).text) (sym sorts) in
     sym (no_mark x p) ∙ behind_letter s x y texts ∙ no_mark y q
 
-refuted : (v w : Name) → (v ≡ w → ⊥) → same_name v w ≡ false
+pub refuted : (v w : Name) → (v ≡ w → ⊥) → same_name v w ≡ false
 refuted v w unlike = by (same_name v w) refl
   where
     by : (b : Bool) → same_name v w ≡ b → b ≡ false

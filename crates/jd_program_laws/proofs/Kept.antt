@@ -71,7 +71,7 @@ module _ (units : List JavaUnit) (j : JmlProgram) (is : IsProgram units j) where
   by_origin c m x (of_method among has) = by_static c m x (static_routine units m) has
 
   module _ (named : HaveParameterNames units) (none : first_fault d units ≡ None) where
-    own_constants : (c : JmlCase) → In c (all_cases units lineage d is.family) → HasOwnConstants c.contract
+    pub own_constants : (c : JmlCase) → In c (all_cases units lineage d is.family) → HasOwnConstants c.contract
     own_constants c h =
         let from = comes units lineage d is.family c h in
         let w = by_origin from.c from.m from.x from.origin in

@@ -1,10 +1,10 @@
-mod Lists
-mod Lineages
-mod Members
-mod Cases
-mod Families
+pub mod Lists
+pub mod Lineages
+pub mod Members
+pub mod Cases
+pub mod Families
 mod Calls
-mod Bodies
-mod Constants
-mod Kept
+pub mod Bodies
+pub mod Constants
+pub mod Kept
 mod Meaning

@@ -1,0 +1,4 @@
+pub mod Types
+pub mod Parameters
+pub mod Accepted
+pub mod Standing
