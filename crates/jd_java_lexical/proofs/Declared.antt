@@ -1,11 +1,17 @@
--- The methods and constructors of such trees.
-use Rattle.std.proofs.Common.{◌≡◌, ℕ, suc, Bool, true, false, List, [], ◌∷◌, map, Some, refl, subst, cond}
+-- The constants, methods and constructors of such trees.
+use Rattle.std.proofs.Common.{◌≡◌, ℕ, suc, Bool, true, false, ℤ, List, [], ◌∷◌, map, Some, MatchOption, refl, subst, cond}
 use Rattle.std.specs.List.{AllByRecursion as Every, filter, slice_get}
 use Rattle.jd_syntax.specs.JavaTrees.{JavaMember, FieldMember, ConstantMember, MethodMember, JavaMethod, JavaResult, Void, Gives, OfConstructor, JavaUnit}
 use Rattle.jd_jclasses.specs.Classes.{DeclaredClass, classes_from, declared_classes, prelude_count}
 use Rattle.jd_jclasses.specs.Members.{Declared, Kind, FieldOf, ConstantOf, RoutineOf, builds, declared_members, is_constructor, is_routine, is_static, of_classes, of_member, of_members}
 use Rattle.jd_jclasses.specs.Methods.{routines}
+use Rattle.jd_bodies.specs.Declarations.{AreDeclarations, Declarations, HasNoVariable, IsVariableOf}
+use Rattle.jd_bodies.specs.Declarations.IsVariableOf.{a_constant, a_field}
+use Rattle.jd_bodies.specs.declared.value.Variable.{Variable}
+use Rattle.jd_bodies.specs.declared.value.Variable.TheVariants as variables
+use Rattle.jd_model.specs.WellFormedHeaps.{in_int}
 use Rattle.jd_files.specs.Files.{AreTrees}
+use Rattle.jd_resolved_bodies.specs.Laws.{ConstantsFit}
 use Rattle.jd_java_names.proofs.Every.{every_append, every_at, every_mapped}
 use Rattle.jd_program_laws.specs.Laws.{AreLexicalMethods, ConstructorsAreNotStatic, HaveParameterNames}
 use Rattle.jd_java_lexical.proofs.Filled.{trees_good}
@@ -13,7 +19,7 @@ use Rattle.jd_java_lexical.proofs.Good.{GoodClass, GoodMember, GoodMethod, GoodU
 
 abbrev GoodKind : Kind → Type 0
 GoodKind (FieldOf t) = Unit {0}
-GoodKind (ConstantOf n) = Unit {0}
+GoodKind (ConstantOf n) = in_int n ≡ true
 GoodKind (RoutineOf m) = GoodMethod m
 
 abbrev GoodDeclaration : Declared → Type 0
@@ -34,7 +40,7 @@ classes_good n (u ∷ us) h =
 
 member_good : (class file place : ℕ) (m : JavaMember) → GoodMember m → Every GoodDeclaration (of_member class file place m)
 member_good class file place (FieldMember f) h = every_one GoodDeclaration (λ x. record { class = class; file = file; member = place; name = x; kind = FieldOf f.ty.written }) (λ x. tt) f.names
-member_good class file place (ConstantMember c) h = (tt, tt)
+member_good class file place (ConstantMember c) h = (h, tt)
 member_good class file place (MethodMember m) h = (h, tt)
 
 members_good : (class file place : ℕ) (ms : List JavaMember) → Every GoodMember ms → Every GoodDeclaration (of_members class file place ms)
@@ -55,10 +61,12 @@ every_kept P test (x ∷ xs) h = by (test x) (every_kept P test xs h.1)
     by true k = (h.0, k)
     by false k = k
 
+each_good : (files : List (List ℕ)) (units : List JavaUnit) → AreTrees files units → Every GoodDeclaration (declared_members units)
+each_good files units are = all_good prelude_count (declared_classes units) (classes_good 0 units (trees_good files units are))
+
 routine_good : (files : List (List ℕ)) (units : List JavaUnit) → AreTrees files units → (m : ℕ) (r : Declared) → slice_get (routines units) m ≡ Some r → GoodKind r.kind
 routine_good files units are m r there =
-    every_at GoodDeclaration (routines units) m r
-    (every_kept GoodDeclaration (λ (x : Declared). is_routine x.kind) (declared_members units) (all_good prelude_count (declared_classes units) (classes_good 0 units (trees_good files units are)))) there
+    every_at GoodDeclaration (routines units) m r (every_kept GoodDeclaration (λ (x : Declared). is_routine x.kind) (declared_members units) (each_good files units are)) there
 
 method_good : (files : List (List ℕ)) (units : List JavaUnit) → AreTrees files units → (m : ℕ) (r : Declared) (t : JavaMethod) → slice_get (routines units) m ≡ Some r → r.kind ≡ RoutineOf t → GoodMethod t
 method_good files units are m r t there kind = subst GoodKind kind (routine_good files units are m r there)
@@ -81,3 +89,11 @@ not_static (RoutineOf m) h e = h.instance (constructor_of m.result e)
 
 pub constructors : (files : List (List ℕ)) (units : List JavaUnit) → AreTrees files units → ConstructorsAreNotStatic units
 constructors files units are m r there e = not_static r.kind (routine_good files units are m r there) e
+
+pub constants : (files : List (List ℕ)) (units : List JavaUnit) → AreTrees files units → (d : Declarations) → AreDeclarations units d → ConstantsFit d
+constants files units are d of c name n e = fits (variables.Constant n) (subst (λ o. MatchOption o (HasNoVariable units c name) (IsVariableOf units c name)) e (of.variables_ c name)) n refl
+  where
+    fits : (v : Variable) → IsVariableOf units c name v → (k : ℤ) → v ≡ variables.Constant k → in_int k ≡ true
+    fits _ (a_field f one t there kind named sub) k same = absurd cc
+    fits _ (a_constant i one m there kind named sub) k same =
+        let value : m ≡ k = cc in subst (λ z. in_int z ≡ true) value (subst GoodKind kind (every_at GoodDeclaration (declared_members units) i one (each_good files units are) there))
