@@ -21,11 +21,11 @@ ghost use Rattle.jd_answer.specs.declared.status.Status.{Status};
 ghost use Rattle.jd_answer.specs.declared.answer.Stop.TheVariants.{NoMemory as OutOfMemory};
 
 use crate::java::refused;
-use crate::token::refused_token;
 use crate::report::{missing, status_of, text_of};
 use crate::script::{proof_of, unread};
 use crate::status::Status;
 use crate::text::{file_too_long, proof_too_long, report_too_long, too_many_files, unbuilt, usage};
+use crate::token::refused_token;
 use crate::words::{ReplayFiles, replay_files};
 use jd_base::{Library, NoMemory, ReadRefusal, read_whole};
 use jd_classes::Classes;

@@ -16,7 +16,7 @@ use Rattle.jd_model.specs.Truth.{Setting, InvTruth}
 use Rattle.jd_model.specs.Validity.{AllTrue}
 use Rattle.jd_model.specs.Renamings.{AllFirstOrder}
 use Rattle.jd_model.specs.Cases.{DeclaredType, Parameter, Role, Static, Ordinary, Helper, ConstructorOf, Behaviour, AnyEnd, NormalOnly, ExceptionalOnly, Contract}
-use Rattle.jd_model.specs.EntryExit.{Moment, EntryAs, NormalEnd, ExceptionalEnd, ResultOf, MayEnd, entry_moment, normal_moment, thrown_moment, interpretation_of, state_of, assignable_at, measure_at}
+use Rattle.jd_model.specs.EntryExit.{Moment, AreOf, EntryAs, RoleFields, NormalEnd, ExceptionalEnd, ResultOf, MayEnd, entry_moment, normal_moment, thrown_moment, interpretation_of, state_of, assignable_at, measure_at}
 use Rattle.jd_model.specs.Tables.{CaseStandsFor, SortsOf, loosened, members, constants_of_parameters, parameter_constant, receiver_in, result_in}
 use Rattle.jd_model.proofs.Writes.{read_back}
 use Rattle.jd_jml_meaning.specs.Resolved.{JmlExpr}
@@ -27,7 +27,7 @@ use Rattle.jd_jml_meaning.specs.InvariantFormulas.{setting_of}
 use Rattle.jd_jml_meaning.specs.JmlContracts.{JmlContract, JmlEntry, JmlNormalEnd, JmlExceptionalEnd, ClausesHold, SignalsHold, ReceiverInvariant, InvariantAtEnd, InvariantHolds, argument_at, result_at, world_of}
 use Rattle.jd_jml_meaning.specs.ContractFormulas.{constant_at, result_term, contract_spelling, contract_of}
 use Rattle.jd_jml_meaning.specs.JmlCases.{JmlCase, JmlProgram, case_of, specified}
-use Rattle.jd_jml_meaning.specs.Laws.{HasOwnConstants}
+use Rattle.jd_jml_meaning.specs.Laws.{ContractMeans, HasOwnConstants}
 use Rattle.jd_jml_meaning.proofs.Spelled.{iff_same, and_iff, imp_iff, iff_then, spelled, holds}
 use Rattle.jd_jml_meaning.proofs.Located.{located_all}
 use Rattle.jd_jml_meaning.proofs.InvariantsHold.{invariants_mean}
@@ -75,7 +75,7 @@ module _ (j : JmlProgram) (fields : ℕ → List ℕ) (listed : AreFieldLists j.
   abbrev k : Contract
   k = contract_of p (spelled_for b c)
 
-  means : _
+  means : ContractMeans p j.own c
   means = contract_means p j.own c own
 
   -- ---- the members of the entry
@@ -248,7 +248,7 @@ module _ (j : JmlProgram) (fields : ℕ → List ℕ) (listed : AreFieldLists j.
 
     -- ---- the entry
 
-    rest_iff : AllTrue g d i s [] rest ↔ _
+    rest_iff : AllTrue g d i s [] rest ↔ (AreOf g before c.parameters arguments × (ClausesHold p j.own Before c entry c.requires_ × (ReceiverInvariant p j.own c.role before this × RoleFields g c.role before this)))
     rest_iff =
         joined_iff g d i s (parameter_members k.parameters) (k.requires_ ++ (invariant_members k.role (Constant entry_heap) ++ field_members p fields k.role)) (parameters_iff g d i s b.parameters c.parameters fits.sorts)
         (joined_iff g d i s k.requires_ (invariant_members k.role (Constant entry_heap) ++ field_members p fields k.role) (clauses_iff (at_entry c.role) Earlier entry agree_entry Before refl c.requires_ speaks.required)
@@ -303,7 +303,7 @@ module _ (j : JmlProgram) (fields : ℕ → List ℕ) (listed : AreFieldLists j.
         (invariant_iff c.role (ProgramVariable heap_name) (heap_of s) refl) in
         let instance = thrown_iff g d i s p.throwable (as_ref (read s thrown_variable)) thrown_is in
         let created = created_iff g d i s (ProgramVariable heap_name) (ProgramVariable thrown_variable) (heap_of s) refl (as_ref (read s thrown_variable)) thrown_is in (
-          λ x. let y = all.0 x.3 in record { well_formed = x.0; thrown = instance.0 x.1; created = created.0 x.2; signalled = y.0.0; only = y.0.1.0; allowed = y.0.1.1; invariant = y.1 },
+          λ x. let y = all.0 x.1.1.1 in record { well_formed = x.0; thrown = instance.0 x.1.0; created = created.0 x.1.1.0; signalled = y.0.0; only = y.0.1.0; allowed = y.0.1.1; invariant = y.1 },
           λ y. (y.well_formed, (instance.1 y.thrown, (created.1 y.created, all.1 ((y.signalled, (y.only, y.allowed)), y.invariant)))),
         )
 
@@ -324,10 +324,13 @@ module _ (j : JmlProgram) (fields : ℕ → List ℕ) (listed : AreFieldLists j.
   -- ---- the form of the members
 
   entry_order : AllFirstOrder (map loosened (entry_members p fields κ.class k))
-  entry_order = subst AllFirstOrder (sym (members_are false)) (tt, tight.order_joined (map loosened (receiver_members c.role κ.class)) _ (tight.order_receiver c.role κ.class)
-      (tight.order_joined (parameter_members k.parameters) _ (tight.order_parameters k.parameters)
-      (tight.order_joined k.requires_ _ (tight.order_clauses p sp Before c.requires_)
-      (tight.order_joined (invariant_members k.role (Constant entry_heap)) _ (tight.order_invariant c.role (Constant entry_heap)) (tight.order_fields p fields c.role)))))
+  entry_order = subst AllFirstOrder (sym (members_are false)) (
+    tt,
+    tight.order_joined (map loosened (receiver_members c.role κ.class)) _ (tight.order_receiver c.role κ.class)
+        (tight.order_joined (parameter_members k.parameters) _ (tight.order_parameters k.parameters)
+        (tight.order_joined k.requires_ _ (tight.order_clauses p sp Before c.requires_)
+        (tight.order_joined (invariant_members k.role (Constant entry_heap)) _ (tight.order_invariant c.role (Constant entry_heap)) (tight.order_fields p fields c.role)))),
+  )
 
   exit_order : AllFirstOrder (normal_members k ++ invariant_members k.role (ProgramVariable heap_name))
   exit_order =
@@ -338,11 +341,16 @@ module _ (j : JmlProgram) (fields : ℕ → List ℕ) (listed : AreFieldLists j.
       (tight.order_invariant c.role (ProgramVariable heap_name))
 
   exceptional_order : AllFirstOrder (exceptional_members p k ++ invariant_members k.role (ProgramVariable heap_name))
-  exceptional_order =
-      (tt, (tt, tight.order_joined (signalled_members k.signals ++ (map only_member k.signals_only ++ unless_exceptional k.behaviour)) _
-      (tight.order_joined (signalled_members k.signals) _ (tight.order_signals p sp Now c.signals)
-      (tight.order_joined (map only_member k.signals_only) _ (tight.order_only c.signals_only) (tight.order_unless_exceptional c.behaviour)))
-      (tight.order_invariant c.role (ProgramVariable heap_name))))
+  exceptional_order = (
+    tt,
+    (
+      tt,
+      tight.order_joined (signalled_members k.signals ++ (map only_member k.signals_only ++ unless_exceptional k.behaviour)) _
+          (tight.order_joined (signalled_members k.signals) _ (tight.order_signals p sp Now c.signals)
+          (tight.order_joined (map only_member k.signals_only) _ (tight.order_only c.signals_only) (tight.order_unless_exceptional c.behaviour)))
+          (tight.order_invariant c.role (ProgramVariable heap_name)),
+    ),
+  )
 
   back_iff : {A B : Type 0} → A ↔ B → B ↔ A
   back_iff h = (h.1, h.0)

@@ -48,7 +48,7 @@ stable_true false n = absurd (n (λ e. true≢false (sym e)))
 module _ (g : Setting) (d : ℕ) (i s : State) (ht xt : PlainTerm) (h : Heap) (in_heap : as_heap (value i s [] ht) ≡ h) where
   -- ---- references
 
-  created_iff : (r : Reference) → value i s [] xt ≡ RefValue r → Truth g d i s [] (created_at ht xt) ↔ (is_created h r ≡ true)
+  pub created_iff : (r : Reference) → value i s [] xt ≡ RefValue r → Truth g d i s [] (created_at ht xt) ↔ (is_created h r ≡ true)
   created_iff r is = bit_iff (λ j. is_created (in_heap j) (as_ref (is j)))
 
   instance_iff : (k : PlainKind) (r : Reference) → value i s [] xt ≡ RefValue r → Truth g d i s [] (And (IsInstance k xt) (created_at ht xt)) ↔ (cond (is_instance g.program k r) (is_created h r) false ≡ true)
@@ -63,8 +63,8 @@ module _ (g : Setting) (d : ℕ) (i s : State) (ht xt : PlainTerm) (h : Heap) (i
 
   null_iff : (k : PlainKind) (n : Bool) (r : Reference) → value i s [] xt ≡ RefValue r → Truth g d i s [] (or_null n xt (And (IsInstance k xt) (created_at ht xt))) ↔ (cond (is_null r) n (cond (is_instance g.program k r) (is_created h r) false) ≡ true)
   null_iff k true Null is = (λ x. refl, λ e n. n.0 is)
-  null_iff k true (Object c n) is = or_iff _ _ (instance_iff k (Object c n) is) (not_null _ (Object c n) is refl)
-  null_iff k true (Array l n) is = or_iff _ _ (instance_iff k (Array l n) is) (not_null _ (Array l n) is refl)
+  null_iff k true (Object c n) is = or_iff (And (IsInstance k xt) (created_at ht xt)) (cond (is_instance g.program k (Object c n)) (is_created h (Object c n)) false) (instance_iff k (Object c n) is) (not_null _ (Object c n) is refl)
+  null_iff k true (Array l n) is = or_iff (And (IsInstance k xt) (created_at ht xt)) (cond (is_instance g.program k (Array l n)) (is_created h (Array l n)) false) (instance_iff k (Array l n) is) (not_null _ (Array l n) is refl)
   null_iff k false Null is = instance_iff k Null is
   null_iff k false (Object c n) is = instance_iff k (Object c n) is
   null_iff k false (Array l n) is = instance_iff k (Array l n) is

@@ -15,6 +15,7 @@ use Rattle.jd_jclasses.specs.Refusals.{AreClasses}
 use Rattle.jd_jseen.proofs.Routines.{kept}
 use Rattle.jd_bodies.specs.Declarations.{AreDeclarations, Declarations, HasNoVariable, IsJoined, IsVariableOf, RunsNoConstructor, Signature, type_of}
 use Rattle.jd_bodies.specs.Declarations.IsVariableOf.{a_constant, a_field}
+use Rattle.jd_bodies.specs.declared.value.ValueType.TheVariants.{Missing}
 use Rattle.jd_bodies.specs.declared.value.Variable.{Variable}
 use Rattle.jd_bodies.specs.declared.value.Variable.TheVariants as variables
 use Rattle.jd_declaration_laws.proofs.Members as seen
@@ -49,7 +50,7 @@ module _ (methods : OneMethod) (units : List JavaUnit) (stand : AreClasses units
   abbrev variable_of : Kind → ℕ → Variable
   variable_of (FieldOf t) i = variables.Field (length (filter (λ (m : Declared). is_field m.kind) (take i (declared_members units)))) (type_of units t)
   variable_of (ConstantOf n) i = variables.Constant n
-  variable_of (RoutineOf m) i = variables.Constant 0
+  variable_of (RoutineOf m) i = variables.Field i Missing
 
   record Shown (class : ℕ) (name : List ℕ) (v : Variable) : Type 0 where
     member : seen.Variable units stand class name

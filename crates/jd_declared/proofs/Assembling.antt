@@ -133,13 +133,13 @@ module _ (units : List JavaUnit) (d : Declared) (parts : AreParts units d) where
   nothing_by : {V : Type 0} (maps : List (Named V)) (q : List ℕ) (c : ℕ) → length maps ≡ length (parents units) → length (parents units) ≤ c → own_value maps q c ≡ None
   nothing_by maps q c many past = ap (option_and_then (λ m. value_at m q)) (slice_get_past maps c (omega (arith, many, past)))
 
+  sees_none : (c : ℕ) (q : List ℕ) → length (parents units) ≤ c → (v : Variable) → IsVariableOf units c q v → ⊥
+  sees_none c q past _ (a_field f one t there kind name sub) = no_class c one.class past (field_of_class f one there) sub
+  sees_none c q past _ (a_constant i one n there kind name sub) = no_class c one.class past (members_are_of_classes units i one there) sub
+
   no_variable : (c : ℕ) (q : List ℕ) → length (parents units) ≤ c → (o : Option Variable) → first_named (variables_of units (value_at d.classes) c) q ≡ o → None ≡ o
   no_variable c q past None is = refl
-  no_variable c q past (Some v) is = absurd (of_none (variable_found units (value_at d.classes) parts.classes_ c q c v is (inl refl)))
-    where
-      of_none : IsVariableOf units c q v → ⊥
-      of_none (a_field f one t there kind name sub) = no_class c one.class past (field_of_class f one there) sub
-      of_none (a_constant i one n there kind name sub) = no_class c one.class past (members_are_of_classes units i one there) sub
+  no_variable c q past (Some v) is = absurd (sees_none c q past v (variable_found units (value_at d.classes) parts.classes_ c q c v is (inl refl)))
 
   no_method_of : (c : ℕ) (q : List ℕ) → length (parents units) ≤ c → (o : Option ℕ) → first_named (methods_of units c) q ≡ o → None ≡ o
   no_method_of c q past None is = refl
@@ -261,7 +261,7 @@ module _ (units : List JavaUnit) (d : Declared) (parts : AreParts units d) where
 
   unmet : (a b : ℕ) → ((other : ℕ) → Below ps a other → Below ps b other → ⊥) → IsJoined units a b (met_at a b)
   unmet a b none =
-      ⊎_elim (λ both. absurd (none _ both.0 both.1)) (λ zero. inr ((λ other one two. none other (below a other one) (below b other two)), zero))
+      ⊎_elim (λ both. absurd (none _ both.0 both.1)) (λ zero_. inr ((λ other one two. none other (below a other one) (below b other two)), zero_))
       (met_or_none ps d.depths.items (steps d.depths.items a + steps d.depths.items b) a b)
 
   joined_past : (a b : ℕ) → (a ≡ b → (other : ℕ) → Below ps a other → Below ps b other) → ((a ≡ b → ⊥) → (other : ℕ) → Below ps a other → Below ps b other → ⊥) → (t : Bool) → nat_eq a b ≡ t → IsJoined units a b (met_at a b)

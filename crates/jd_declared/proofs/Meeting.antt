@@ -25,11 +25,11 @@ module _ (parents : List (Option ℕ)) (depths : List ℕ) where
 
   above_first : (a b p c : ℕ) → parent_of parents a ≡ Some p → Met p b c → Met a b c
   above_first a b p c is (inl both) = inl (below_parent parents a p c is both.0, both.1)
-  above_first a b p c is (inr zero) = inr zero
+  above_first a b p c is (inr topmost_) = inr topmost_
 
   above_second : (a b p c : ℕ) → parent_of parents b ≡ Some p → Met a p c → Met a b c
   above_second a b p c is (inl both) = inl (both.0, below_parent parents b p c is both.1)
-  above_second a b p c is (inr zero) = inr zero
+  above_second a b p c is (inr topmost_) = inr topmost_
 
   module _ (n a b : ℕ) (rest : (p q : ℕ) → Met p q (meeting parents depths n p q)) where
     first_met : (up : Option ℕ) → parent_of parents a ≡ up → Met a b (met parents depths (meeting parents depths n) (option_map (λ p. (p, b)) up))

@@ -4,5 +4,4 @@ ghost use Rattle.jd_spoken.specs.Laws.{ContractsSpeak};
 /// a receiver, of the result in `ensures` alone and of what was thrown in `signals` alone (JML Reference Manual, 9.9 and 12.4.1).
 pub fn contracts_speak()
     ensures { ContractsSpeak }
-{
-}
+{}
