@@ -34,8 +34,8 @@ pub only : {A : Type 0} (t : Bool) (at : ℕ) (cause : SpecCause) (a b : A) → 
 only true at cause a b e = refl
 only false at cause a b e = absurd cc
 
-refused_is : {A : Type 0} {B : Type 0} (at : ℕ) (cause : SpecCause) (b : A) → refused {A} at cause ≡ Ok b → B
-refused_is at cause b e = absurd cc
+pub refused_is : {B : Type 0} (at : ℕ) (cause : SpecCause) (t : ValueType) → ◌≡◌ {A = Result ValueType SpecFault} (refused at cause) (Ok t) → B
+refused_is at cause t e = absurd cc
 
 -- ---- names in scope, as they are judged and as they are resolved
 
@@ -107,13 +107,14 @@ module _ (d : Declarations) where
     abbrev class : ℕ
     class = p.place.class
 
-    found_speaks : (n : ℕ) (l : Named) (e : Entry) (k : Known) → e.known ≡ k → FitsKnown u l k → Speaks u (found n e)
-    found_speaks n l e k is h = subst (λ q. Speaks u (elim q [ AnArgument i ↦ jml.Argument i | AVariable x ↦ jml.Local x | TheException ↦ jml.Thrown | ABinder ↦ jml.BoundVariable n (sort_of e.type) ])) (sym is) (by l k h)
+    found_speaks : (n : ℕ) (l : Named) (e : Entry) → FitsKnown u l e.known → Speaks u (found n e)
+    found_speaks n l e h = by l e.known h
       where
-        by : (l : Named) (k : Known) → FitsKnown u l k → Speaks u (elim k [ AnArgument i ↦ jml.Argument i | AVariable x ↦ jml.Local x | TheException ↦ jml.Thrown | ABinder ↦ jml.BoundVariable n (sort_of e.type) ])
+        by : (l : Named) (k : Known) → FitsKnown u l k → Speaks u (found n (record { name = e.name; known = k; type = e.type }))
         by AParameter (AnArgument i) h = tt
         by AnException TheException h = h
         by ABound ABinder h = tt
+        by l k h = absurd h
 
     -- a name is in scope for both or for none
     record Seen (n : ℕ) (ls : List SpecLocal) (es : List Entry) (x : List ℕ) : Type 0 where
@@ -139,7 +140,7 @@ module _ (d : Declarations) where
           local_is = ap (λ b. if b then Some l else local_named ls x) is;
           entry_is = ap (λ b. if b then Some (found n e) else looked_up (binders_then e.known n) es x) (ap (λ w. bytes_eq w x) (sym f.0) ∙ is);
           typed_is = ap (λ b. if b then Some e.type else typed es x) (ap (λ w. bytes_eq w x) (sym f.0) ∙ is);
-          alike = inr (l, found n e, e.type, refl, refl, refl, found_speaks n l.named e e.known refl f.1);
+          alike = inr (l, found n e, e.type, refl, refl, refl, found_speaks n l.named e f.1);
         }
         by false is rest = record {
           local = rest.local;
@@ -189,7 +190,7 @@ module _ (d : Declarations) where
         ]
 
     -- what stands before a dot is a class for both or for neither
-    unless_same : (l : Option SpecLocal) (t : Option ValueType) (v : Option Variable) (c : Option ℕ) → ((l ≡ None) × (t ≡ None)) ⊎ ((k : SpecLocal) × (w : ValueType) × (l ≡ Some k) × (t ≡ Some w)) → class_unless l v c ≡ to.class_unless t v c
+    unless_same : (l : Option SpecLocal) (t : Option ValueType) (v : Option Variable) (c : Option ℕ) → ((l ≡ None) × (t ≡ None)) ⊎ ((k : SpecLocal) × (w : ValueType) × (l ≡ Some k) × (t ≡ Some w)) → class_unless l v c ≡ to.class_unless d t v c
     unless_same None None None c a = refl
     unless_same None None (Some v) c a = refl
     unless_same (Some l) (Some t) v c a = refl
@@ -203,7 +204,7 @@ module _ (d : Declarations) where
         let s = seen 0 ls es c f in
         ap (λ o. class_unless o (d.variable class c) (d.class_named c)) s.local_is
         ∙ unless_same s.local s.typed_ (d.variable class c) (d.class_named c) (elim s.alike [ inl none ↦ inl (none.0, none.2) | inr some ↦ inr (some.0, some.2, some.3, some.5) ])
-        ∙ sym (ap (λ o. to.class_unless o (d.variable class c) (d.class_named c)) s.typed_is)
+        ∙ sym (ap (λ o. to.class_unless d o (d.variable class c) (d.class_named c)) s.typed_is)
     before_same ls es f (Integer at n) = refl
     before_same ls es f (Boolean at b) = refl
     before_same ls es f (Null at) = refl
