@@ -1,0 +1,5 @@
+pub mod Meets
+pub mod Exact
+pub mod Made
+pub mod Filling
+pub mod AllLaws

@@ -1,0 +1,11 @@
+ghost use Rattle.jd_pattern_laws.specs.Laws.{MatchingIsExact, BindingsFixMeaning};
+
+/// A law, without code: matching says exactly which instantiations make a find the tree.
+pub fn matching_is_exact()
+    ensures { MatchingIsExact }
+{}
+
+/// A law, without code: bindings of all its variables fix what a pattern means.
+pub fn bindings_fix_meaning()
+    ensures { BindingsFixMeaning }
+{}
