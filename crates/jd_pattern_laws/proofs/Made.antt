@@ -251,7 +251,7 @@ module _ (q : Program) (σ : Instance) where
   mutual
     stmt_fits : (p : StmtPattern) (s : Stmt) → MeetsStmt σ p s → FitsStmt σ p
     stmt_fits (pattern.ReturnVar n) s met = ap is_return met.1 ∙ met.0
-    stmt_fits (pattern.BlockPast n m c) (Block l (Then (Break k) a)) met = ((λ i. not (nat_eq (met.1.0 i) (met.1.1.0 i))) ∙ met.0, code_fits c a met.1.1.1)
+    stmt_fits (pattern.BlockPast n m c) (Block l (Then (Break k) a)) met = ((λ i. not (nat_eq (met.1.1.0 i) (met.1.0 i))) ∙ met.0, code_fits c a met.1.1.1)
     stmt_fits (pattern.Set x e) (Set y d) met = expr_fits e d met.1
     stmt_fits (pattern.WriteField e n f) (WriteField c a d) met = (expr_fits e c met.0, expr_fits f d met.1.1)
     stmt_fits (pattern.WriteElement e f g) (WriteElement b c d) met = (expr_fits e b met.0, (expr_fits f c met.1.0, expr_fits g d met.1.1))

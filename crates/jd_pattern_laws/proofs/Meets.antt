@@ -60,7 +60,7 @@ module _ (σ : Instance) where
   abbrev mutual
     pub MeetsStmt : StmtPattern → Stmt → Type 0
     MeetsStmt (pattern.ReturnVar n) s = (is_return s ≡ true) × (σ.returned n ≡ s)
-    MeetsStmt (pattern.BlockPast n m c) (Block l (Then (Break k) a)) = (not (nat_eq l k) ≡ true) × ((σ.label n ≡ l) × ((σ.label m ≡ k) × MeetsCode c a))
+    MeetsStmt (pattern.BlockPast n m c) (Block l (Then (Break k) a)) = (not (nat_eq k l) ≡ true) × ((σ.label n ≡ l) × ((σ.label m ≡ k) × MeetsCode c a))
     MeetsStmt (pattern.Set x e) (Set y d) = MeetsName x y × MeetsExpr e d
     MeetsStmt (pattern.WriteField e n f) (WriteField c a d) = MeetsExpr e c × ((σ.field n ≡ a) × MeetsExpr f d)
     MeetsStmt (pattern.WriteElement e f g) (WriteElement b c d) = MeetsExpr e b × (MeetsExpr f c × MeetsExpr g d)

@@ -22,7 +22,7 @@ module _ (σ : Instance) where
   abbrev mutual
     pub FitsStmt : StmtPattern → Type 0
     FitsStmt (pattern.ReturnVar n) = is_return (σ.returned n) ≡ true
-    FitsStmt (pattern.BlockPast n m c) = (not (nat_eq (σ.label n) (σ.label m)) ≡ true) × FitsCode c
+    FitsStmt (pattern.BlockPast n m c) = (not (nat_eq (σ.label m) (σ.label n)) ≡ true) × FitsCode c
     FitsStmt (pattern.Set x e) = FitsExpr e
     FitsStmt (pattern.WriteField e n f) = FitsExpr e × FitsExpr f
     FitsStmt (pattern.WriteElement e f g) = FitsExpr e × (FitsExpr f × FitsExpr g)

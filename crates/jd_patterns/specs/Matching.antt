@@ -100,7 +100,7 @@ module _ (w : Tests) where
   abbrev mutual
     pub match_stmt : StmtPattern → Stmt → Bindings → Option Bindings
     match_stmt (pattern.ReturnVar n) s τ = only (is_return s) (bind w n (TheReturn s) τ)
-    match_stmt (pattern.BlockPast n m c) (Block l (Then (Break k) a)) τ = only (not (nat_eq l k)) (next (bind w n (TheLabel l) τ) (λ υ. next (bind w m (TheLabel k) υ) (λ φ. match_code c a φ)))
+    match_stmt (pattern.BlockPast n m c) (Block l (Then (Break k) a)) τ = only (not (nat_eq k l)) (next (bind w n (TheLabel l) τ) (λ υ. next (bind w m (TheLabel k) υ) (λ φ. match_code c a φ)))
     match_stmt (pattern.Set x e) (Set y d) τ = next (match_name x y τ) (λ υ. match_expr e d υ)
     match_stmt (pattern.WriteField e n f) (WriteField c a d) τ = next (match_expr e c τ) (λ υ. next (bind w n (TheField a) υ) (λ φ. match_expr f d φ))
     match_stmt (pattern.WriteElement e f g) (WriteElement b c d) τ = next (match_expr e b τ) (λ υ. next (match_expr f c υ) (λ φ. match_expr g d φ))

@@ -16,6 +16,7 @@ use Rattle.jd_term.specs.Terms.{PlainTerm, sort_of_term, Number, Boolean, NullTe
 use Rattle.jd_term.specs.Formulas.{PlainFormula, TrueFormula, FalseFormula, And, Or, Equal, InInt, IsInstance}
 use Rattle.jd_term.specs.Renamings.{Renaming, rename}
 use Rattle.jd_term.specs.Substitutions.{SortsAgree, TermSortsAgree}
+use Rattle.jd_heap.specs.HeapLaws.{IsEntrySort}
 use Rattle.jd_model.specs.SpecialNames.{receiver}
 use Rattle.jd_model.specs.Programs.{Program, ValueType, IntType, BooleanType, ReferenceType, field_sort, is_subclass}
 use Rattle.jd_model.specs.Runs.{wrap32}
@@ -98,13 +99,6 @@ abbrev pub default_expr : Sort → Expr
 default_expr IntSort = IntLiteral (pos 0)
 default_expr BoolSort = BoolLiteral false
 default_expr s = NullLiteral
-
--- the sorts of a heap's entries
-abbrev pub IsEntrySort : Sort → Type 0
-IsEntrySort IntSort = Unit {0}
-IsEntrySort BoolSort = Unit {0}
-IsEntrySort RefSort = Unit {0}
-IsEntrySort s = ⊥
 
 -- what a well-formed heap says of a value of a type: in range; nothing; null, or a created instance
 abbrev pub typing : ValueType → PlainTerm → PlainTerm → PlainFormula
