@@ -7,7 +7,11 @@ use Rattle.jd_patterns.specs.Patterns.{CodePattern, TermPattern, LocPattern, For
 use Rattle.jd_patterns.specs.Instances.{Instance}
 use Rattle.jd_patterns.specs.Bindings.{Bindings, Agrees, Within, Exactly, Tests}
 use Rattle.jd_patterns.specs.Variables.{code_variables, term_variables, loc_variables, formula_variables}
-use Rattle.jd_pattern_laws.specs.Laws.{MatchingIsExact, BindingsFixMeaning}
+use Rattle.jd_pattern_laws.specs.Laws.{MakesTerm, MakesLoc, MakesFormula, MatchingIsExact, MatchingDecides, BindingsFixMeaning}
+use Rattle.jd_patterns.specs.Chosen.{BoundOnce}
+use Rattle.jd_patterns.specs.Matching.{match_term, match_loc, match_formula}
+use Rattle.jd_pattern_laws.proofs.Chosen.{bind_once, decided}
+use Rattle.jd_pattern_laws.proofs.Keeping.{term_keeps, loc_keeps, formula_keeps}
 use Rattle.jd_pattern_laws.proofs.Meets.{MeetsTerm, MeetsLoc, MeetsFormula}
 use Rattle.jd_pattern_laws.proofs.Exact.{term_law, loc_law, formula_law}
 use Rattle.jd_pattern_laws.proofs.Filling.{all_same, code_fill, term_fill, loc_fill, formula_fill}
@@ -30,4 +34,11 @@ fixed = record {
   of_terms = λ p σ ρ τ a o h k. term_fill σ ρ p a (all_same σ ρ (term_variables a) τ o h k);
   of_locations = λ p σ ρ τ a o h k. loc_fill σ ρ p a (all_same σ ρ (loc_variables a) τ o h k);
   of_formulas = λ p σ ρ τ a o h k. formula_fill σ ρ p a (all_same σ ρ (formula_variables a) τ o h k);
+}
+
+pub decides : MatchingDecides
+decides = record {
+  of_terms = λ p w τ a t o once. decided w τ (λ σ. MakesTerm p σ a t) (match_term w a t τ) (λ σ. matching.of_terms p w σ τ a t o) (term_keeps w (BoundOnce w) (bind_once w) a t τ once);
+  of_locations = λ p w τ a l o once. decided w τ (λ σ. MakesLoc p σ a l) (match_loc w a l τ) (λ σ. matching.of_locations p w σ τ a l o) (loc_keeps w (BoundOnce w) (bind_once w) a l τ once);
+  of_formulas = λ p w τ a f o once. decided w τ (λ σ. MakesFormula p σ a f) (match_formula w a f τ) (λ σ. matching.of_formulas p w σ τ a f o) (formula_keeps w (BoundOnce w) (bind_once w) a f τ once);
 }

@@ -13,7 +13,7 @@ use Rattle.jd_patterns.specs.Patterns.{SchemaVar, SortPattern, SortVar, SortIs, 
 use Rattle.jd_patterns.specs.Instances.{Instance, one_part, of_object, connected, compared, quantified, tested, classed, of_sort, of_kind, of_modality, of_name, of_result, of_class, of_expr, of_stmt, of_code, of_term, of_loc, of_formula}
 use Rattle.jd_patterns.specs.Bindings.{Part, TheFormula, TheTerm, TheLiteral, TheLocations, TheKind, TheSort, TheName, TheResult, TheField, TheClass, TheLabel, TheCode, TheReturn, TheSimple, TheModality, TheContext, Bindings, Says, Agrees}
 use Rattle.jd_patterns.specs.Variables.{VarKind, FormulaKind, TermKind, LiteralKind, LocKind, KindKind, SortKind, NameKind, ResultKind, FieldKind, ClassKind, LabelKind, CodeKind, ReturnKind, SimpleKind, ModalityKind, ContextKind, Variable, sort_variables, kind_variables, modality_variables, name_variables, result_variables, class_variables, expr_variables, stmt_variables, code_variables, term_variables, loc_variables, formula_variables}
-use Rattle.jd_pattern_laws.specs.Laws.{kind_of, IsBound, AllBound}
+use Rattle.jd_patterns.specs.Chosen.{kind_of, IsBound, AllBound}
 
 -- ---- what a variable stands for
 

@@ -1,15 +1,17 @@
 -- The laws of patterns: matching is exact, and bindings of its variables fix what a pattern means.
-use Rattle.std.specs.Prelude.{◌≡◌, ◌⊎◌, List, [], ◌∷◌}
+use Rattle.std.specs.Prelude.{◌≡◌, ◌↔◌, Option, None}
+use Rattle.std.specs.Option.{IfSome}
 use Rattle.jd_syntax.specs.Codes.{PlainCode}
 use Rattle.jd_term.specs.Terms.{PlainTerm, PlainLoc}
 use Rattle.jd_term.specs.Formulas.{PlainFormula}
 use Rattle.jd_model.specs.Programs.{Program}
 use Rattle.jd_patterns.specs.Patterns.{CodePattern, TermPattern, LocPattern, FormulaPattern}
 use Rattle.jd_patterns.specs.Instances.{Instance, of_code, of_term, of_loc, of_formula}
-use Rattle.jd_patterns.specs.Bindings.{Part, TheFormula, TheTerm, TheLiteral, TheLocations, TheKind, TheSort, TheName, TheResult, TheField, TheClass, TheLabel, TheCode, TheReturn, TheSimple, TheModality, TheContext, Bindings, Agrees, Exactly, Tests}
+use Rattle.jd_patterns.specs.Bindings.{Bindings, Agrees, Exactly, Tests}
+use Rattle.jd_patterns.specs.Chosen.{AllBound, BoundOnce, chosen}
 use Rattle.jd_patterns.specs.Finds.{FitsTerm, FitsLoc, FitsFormula, IsFindTerm, IsFindLoc, IsFindFormula}
 use Rattle.jd_patterns.specs.Matching.{match_term, match_loc, match_formula}
-use Rattle.jd_patterns.specs.Variables.{VarKind, FormulaKind, TermKind, LiteralKind, LocKind, KindKind, SortKind, NameKind, ResultKind, FieldKind, ClassKind, LabelKind, CodeKind, ReturnKind, SimpleKind, ModalityKind, ContextKind, Variable, code_variables, term_variables, loc_variables, formula_variables}
+use Rattle.jd_patterns.specs.Variables.{code_variables, term_variables, loc_variables, formula_variables}
 
 module _ (p : Program) (σ : Instance) where
   -- the instantiation makes the pattern this tree, and its variables are as the pattern asks
@@ -28,34 +30,15 @@ pub record MatchingIsExact : Type 0 where
   pub of_locations : (p : Program) (w : Tests) (σ : Instance) (τ : Bindings) (a : LocPattern) (l : PlainLoc) → IsFindLoc a → Exactly σ τ (MakesLoc p σ a l) (match_loc w a l τ)
   pub of_formulas : (p : Program) (w : Tests) (σ : Instance) (τ : Bindings) (a : FormulaPattern) (f : PlainFormula) → IsFindFormula a → Exactly σ τ (MakesFormula p σ a f) (match_formula w a f τ)
 
--- ---- bound variables
+-- a find has no answer exactly where no instantiation that agrees with the bindings so far makes it the tree; where there is one, the
+-- bindings choose such an instantiation, and no variable is bound twice
+abbrev pub IsDecided : Tests → Bindings → (Instance → Type 0) → Option Bindings → Type 0
+IsDecided w τ Makes o = (o ≡ None ↔ ((σ : Instance) → Agrees σ τ → ¬ (Makes σ))) × IfSome o (λ υ. BoundOnce w υ × (Agrees (chosen w υ) τ × Makes (chosen w υ)))
 
-abbrev pub kind_of : Part → VarKind
-kind_of (TheFormula x) = FormulaKind
-kind_of (TheTerm x) = TermKind
-kind_of (TheLiteral x) = LiteralKind
-kind_of (TheLocations x) = LocKind
-kind_of (TheKind x) = KindKind
-kind_of (TheSort x) = SortKind
-kind_of (TheName x) = NameKind
-kind_of (TheResult x) = ResultKind
-kind_of (TheField x) = FieldKind
-kind_of (TheClass x) = ClassKind
-kind_of (TheLabel x) = LabelKind
-kind_of (TheCode x) = CodeKind
-kind_of (TheReturn x) = ReturnKind
-kind_of (TheSimple x) = SimpleKind
-kind_of (TheModality x) = ModalityKind
-kind_of (TheContext x) = ContextKind
-
--- the variable has a part of its kind
-abbrev pub IsBound : Variable → Bindings → Type 0
-IsBound v [] = ⊥
-IsBound v (e ∷ τ) = ((kind_of e.1 ≡ v.0) × (e.0 ≡ v.1)) ⊎ IsBound v τ
-
-abbrev pub AllBound : List Variable → Bindings → Type 0
-AllBound [] τ = Unit {0}
-AllBound (v ∷ vs) τ = IsBound v τ × AllBound vs τ
+pub record MatchingDecides : Type 0 where
+  pub of_terms : (p : Program) (w : Tests) (τ : Bindings) (a : TermPattern) (t : PlainTerm) → IsFindTerm a → BoundOnce w τ → IsDecided w τ (λ σ. MakesTerm p σ a t) (match_term w a t τ)
+  pub of_locations : (p : Program) (w : Tests) (τ : Bindings) (a : LocPattern) (l : PlainLoc) → IsFindLoc a → BoundOnce w τ → IsDecided w τ (λ σ. MakesLoc p σ a l) (match_loc w a l τ)
+  pub of_formulas : (p : Program) (w : Tests) (τ : Bindings) (a : FormulaPattern) (f : PlainFormula) → IsFindFormula a → BoundOnce w τ → IsDecided w τ (λ σ. MakesFormula p σ a f) (match_formula w a f τ)
 
 -- where all variables of a pattern are bound, instantiations that agree with the bindings give it one meaning
 pub record BindingsFixMeaning : Type 0 where

@@ -3,4 +3,4 @@
 
 mod laws;
 
-pub use laws::{matching_is_exact, bindings_fix_meaning};
+pub use laws::{matching_is_exact, matching_decides, bindings_fix_meaning};

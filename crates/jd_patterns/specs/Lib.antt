@@ -5,3 +5,4 @@ pub mod Bindings
 pub mod Matching
 pub mod Finds
 pub mod Variables
+pub mod Chosen
