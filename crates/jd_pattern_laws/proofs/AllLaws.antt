@@ -1,11 +1,7 @@
 -- The laws.
 use Rattle.std.proofs.Common.{Option, subst}
-use Rattle.jd_term.specs.Terms.{PlainTerm, PlainLoc}
-use Rattle.jd_term.specs.Formulas.{PlainFormula}
-use Rattle.jd_model.specs.Programs.{Program}
-use Rattle.jd_patterns.specs.Patterns.{CodePattern, TermPattern, LocPattern, FormulaPattern}
 use Rattle.jd_patterns.specs.Instances.{Instance}
-use Rattle.jd_patterns.specs.Bindings.{Bindings, Agrees, Within, Exactly, Tests}
+use Rattle.jd_patterns.specs.Bindings.{Bindings, Agrees, Exactly}
 use Rattle.jd_patterns.specs.Variables.{code_variables, term_variables, loc_variables, formula_variables}
 use Rattle.jd_pattern_laws.specs.Laws.{MakesTerm, MakesLoc, MakesFormula, MatchingIsExact, MatchingDecides, BindingsFixMeaning}
 use Rattle.jd_patterns.specs.Chosen.{BoundOnce}

@@ -1,11 +1,11 @@
 -- Bindings that bind no variable twice choose an instantiation that agrees with them, and matching keeps them so.
-use Rattle.std.proofs.Common.{◌≡◌, ◌↔◌, ◌&&◌, ℕ, Bool, true, false, cond, nat_eq, List, [], ◌∷◌, Option, Some, None, refl, sym, ap, ◌∙◌, subst, true≢false}
+use Rattle.std.proofs.Common.{◌≡◌, ◌&&◌, Bool, true, false, cond, nat_eq, [], ◌∷◌, Option, Some, None, refl, sym, ap, ◌∙◌, subst, true≢false}
 use Rattle.std.proofs.lemmas.Bool.{eqb-true, eq-eqb}
 use Rattle.std.specs.Option.{IfSome}
 use Rattle.jd_patterns.specs.Patterns.{SchemaVar}
 use Rattle.jd_patterns.specs.Instances.{Instance}
-use Rattle.jd_patterns.specs.Bindings.{Part, TheFormula, TheTerm, TheLiteral, TheLocations, TheKind, TheSort, TheName, TheResult, TheField, TheClass, TheLabel, TheCode, TheReturn, TheSimple, TheModality, TheContext, Bindings, Says, Agrees, Within, Exactly, Tests, next, Verdict, OtherKind, Equal, Different, verdict, compare, placed, bind}
-use Rattle.jd_patterns.specs.Variables.{VarKind, Variable}
+use Rattle.jd_patterns.specs.Bindings.{Part, TheFormula, TheTerm, TheLiteral, TheLocations, TheKind, TheSort, TheName, TheResult, TheField, TheClass, TheLabel, TheCode, TheReturn, TheSimple, TheModality, TheContext, Bindings, Says, Agrees, Exactly, Tests, Verdict, OtherKind, Equal, Different, verdict, compare, placed, bind}
+use Rattle.jd_patterns.specs.Variables.{Variable}
 use Rattle.jd_patterns.specs.Chosen.{kind_of, number_of, is_of, bound_to, BoundOnce, as_formula, as_term, as_literal, as_locations, as_kind, as_sort, as_name, as_result, as_field, as_class, as_label, as_code, as_return, as_simple, as_modality, as_context, chosen}
 use Rattle.jd_pattern_laws.specs.Laws.{IsDecided}
 
@@ -34,8 +34,8 @@ module _ (w : Tests) where
   -- the test of a variable's bindings is symmetric
   turned : (n m : SchemaVar) (x y : Part) → is_of w (kind_of y, m) (n, x) ≡ true → is_of w (kind_of x, n) (m, y) ≡ true
   turned n m x y e = both_true _ _
-    (eq-eqb _ _ (sym (eqb-true (number_of (kind_of x)) (number_of (kind_of y)) (first_true _ _ e))))
-    ((w.variable.decides m n).1 (sym ((w.variable.decides n m).0 (second_true (nat_eq (number_of (kind_of x)) (number_of (kind_of y))) _ e))))
+      (eq-eqb _ _ (sym (eqb-true (number_of (kind_of x)) (number_of (kind_of y)) (first_true _ _ e))))
+      ((w.variable.decides m n).1 (sym ((w.variable.decides n m).0 (second_true (nat_eq (number_of (kind_of x)) (number_of (kind_of y))) _ e))))
 
   own : (n : SchemaVar) (x : Part) → is_of w (kind_of x, n) (n, x) ≡ true
   own n x = both_true _ _ (eq-eqb (number_of (kind_of x)) (number_of (kind_of x)) refl) ((w.variable.decides n n).1 refl)

@@ -1,5 +1,5 @@
 -- Instantiations that give all variables of a pattern the same parts give it one meaning.
-use Rattle.std.proofs.Common.{◌≡◌, ◌⊎◌, inl, inr, ℕ, List, [], ◌∷◌, ◌++◌, Option, Some, refl, sym, ap, ◌∙◌, subst}
+use Rattle.std.proofs.Common.{◌≡◌, inl, inr, List, [], ◌∷◌, ◌++◌, Some, refl, sym, ap, ◌∙◌, subst}
 use Rattle.jd_syntax.specs.Codes.{Variable as VariableExpr, Unary, Binary, ReadField, ReadElement, LengthOf, Cast, InstanceOf, Set, WriteField, WriteElement, Evaluate, If, Block, Break, Catch, Finally, Throw, ThrowUnchecked, Return, Frame, Raise, AllocObject, AllocArray, NewArray, Then}
 use Rattle.jd_term.specs.Terms.{Number, ProgramVariable, Constant, Arithmetic, Select, Sum, Store, Create, Anon, NamedField, Single, ElementRange, Union}
 use Rattle.jd_term.specs.Formulas.{Not, Updated, Modal, InLocations}

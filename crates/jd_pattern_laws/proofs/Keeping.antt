@@ -4,8 +4,8 @@ use Rattle.std.specs.Option.{IfSome}
 use Rattle.jd_base.specs.declared.sort.Sort.{Sort}
 use Rattle.jd_syntax.specs.Names.{Name}
 use Rattle.jd_syntax.specs.Codes.{PlainKind, Expr, Variable, Unary, Binary, ReadField, ReadElement, LengthOf, Cast, InstanceOf, Stmt, Set, WriteField, WriteElement, Evaluate, If, Block, Break, Catch, Finally, Throw, ThrowUnchecked, Return, ReturnVoid, Frame, Raise, NewArray, Stop, PlainCode, Done, Then}
-use Rattle.jd_term.specs.Terms.{PlainTerm, sort_of_term, Number, Arithmetic, Negation, Wrap, Length, Select, Sum, Store, Create, Anon, NamedField, ElementField, PlainLoc, NoLocations, AllLocations, Single, ObjectFields, ArrayElements, ElementRange, Union}
-use Rattle.jd_term.specs.Formulas.{PlainFormula, TrueFormula, FalseFormula, Not, And, Or, Implies, Iff, Equal, Less, LessOrEqual, Forall, Exists, Modal, InLocations, InInt, WellFormed, Invariant, IsInstance, IsExactInstance}
+use Rattle.jd_term.specs.Terms.{PlainTerm, sort_of_term, Number, Arithmetic, Select, Sum, Store, Create, Anon, NamedField, PlainLoc, NoLocations, AllLocations, Single, ElementRange, Union}
+use Rattle.jd_term.specs.Formulas.{PlainFormula, TrueFormula, FalseFormula, Not, Modal, InLocations}
 use Rattle.jd_term.specs.declared.formula.Modality.{Modality}
 use Rattle.jd_patterns.specs.Patterns as pattern
 use Rattle.jd_patterns.specs.Patterns.{SchemaVar, SortPattern, SortVar, SortIs, KindPattern, KindVar, KindIs, ModalityPattern, ModalityVar, ModalityIs, NamePattern, NameVar, NameIs, ResultPattern, NoResult, ResultIn, ResultVar, ClassPattern, ClassVar, ExprPattern, StmtPattern, CodePattern, TermPattern, LocPattern, FormulaPattern}

@@ -1,7 +1,6 @@
 -- The laws of patterns: matching is exact, and bindings of its variables fix what a pattern means.
 use Rattle.std.specs.Prelude.{◌≡◌, ◌↔◌, Option, None}
 use Rattle.std.specs.Option.{IfSome}
-use Rattle.jd_syntax.specs.Codes.{PlainCode}
 use Rattle.jd_term.specs.Terms.{PlainTerm, PlainLoc}
 use Rattle.jd_term.specs.Formulas.{PlainFormula}
 use Rattle.jd_model.specs.Programs.{Program}

@@ -3,4 +3,4 @@
 
 mod laws;
 
-pub use laws::{matching_is_exact, matching_decides, bindings_fix_meaning};
+pub use laws::{bindings_fix_meaning, matching_decides, matching_is_exact};

@@ -1,5 +1,5 @@
 -- The instantiation that bindings choose: each variable has the part that it is bound to, and another a default of its kind.
-use Rattle.std.specs.Prelude.{◌≡◌, ◌⊎◌, ◌&&◌, ℕ, ℤ, pos, Bool, true, false, cond, nat_eq, List, [], ◌∷◌, Option, Some, None}
+use Rattle.std.specs.Prelude.{◌≡◌, ◌⊎◌, ◌&&◌, ℕ, ℤ, pos, Bool, cond, nat_eq, List, [], ◌∷◌, Option, Some, None}
 use Rattle.jd_base.specs.declared.sort.Sort.{Sort}
 use Rattle.jd_base.specs.declared.sort.Sort.TheVariants.{Int as IntSort}
 use Rattle.jd_syntax.specs.Names.{Name}

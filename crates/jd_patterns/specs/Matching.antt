@@ -1,5 +1,5 @@
 -- Matching: a pattern against a tree, from the bindings so far. A pattern that stands in no find has no match.
-use Rattle.std.specs.Prelude.{◌≡◌, ℕ, Bool, true, false, not, nat_eq, Option, Some, None}
+use Rattle.std.specs.Prelude.{ℕ, not, nat_eq, Option, Some, None}
 use Rattle.jd_base.specs.declared.sort.Sort.{Sort}
 use Rattle.jd_syntax.specs.Names.{Name}
 use Rattle.jd_syntax.specs.Codes.{PlainKind, Expr, Variable, Unary, Binary, ReadField, ReadElement, LengthOf, Cast, InstanceOf, Stmt, Set, WriteField, WriteElement, Evaluate, If, Block, Break, Catch, Finally, Throw, ThrowUnchecked, Return, ReturnVoid, Frame, Raise, NewArray, Stop, PlainCode, Done, Then}

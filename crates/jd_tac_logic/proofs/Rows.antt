@@ -1,15 +1,15 @@
 -- Each row of logic has its meaning.
-use Rattle.std.proofs.Common.{◌≡◌, ◌≢◌, ℕ, Bool, true, false, List, [], ◌∷◌, inl, refl, sym, ap, ◌∙◌, subst, true≢false}
+use Rattle.std.proofs.Common.{◌≡◌, ◌≢◌, ℕ, true, false, List, [], ◌∷◌, inl, refl, sym, ap, ◌∙◌, subst, true≢false}
 use Rattle.std.specs.Prelude.{codes}
 use Rattle.jd_base.specs.declared.sort.Sort.{Sort}
-use Rattle.jd_base.specs.declared.sort.Sort.TheVariants.{Int as IntSort, Bool as BoolSort, Ref as RefSort, Heap as HeapSort, Field as FieldSort}
+use Rattle.jd_base.specs.declared.sort.Sort.TheVariants.{Bool as BoolSort, Heap as HeapSort}
 use Rattle.jd_syntax.specs.Names.{Name}
 use Rattle.jd_term.specs.Terms.{PlainTerm, sort_of_term, Constant}
-use Rattle.jd_term.specs.Formulas.{PlainFormula, Or}
+use Rattle.jd_term.specs.Formulas.{PlainFormula}
 use Rattle.jd_term.specs.Substitutions.{SortsAgree, formula_subst}
 use Rattle.jd_heap.specs.Values.{Value, BoolValue, as_bool, IsOf}
-use Rattle.jd_model.specs.States.{State, read, write}
-use Rattle.jd_model.specs.Occurrences.{Always, NotIn, FormulaIn}
+use Rattle.jd_model.specs.States.{State, write}
+use Rattle.jd_model.specs.Occurrences.{NotIn, FormulaIn}
 use Rattle.jd_model.specs.Substitutions.{Steady}
 use Rattle.jd_model.specs.TermValues.{value}
 use Rattle.jd_model.specs.Truth.{Setting, Truth, InvTruth}
@@ -199,10 +199,15 @@ all_true g σ c a f m w d i s b r = (λ x. tt, λ x v o. tt)
 ex_false : RowMeans row.ex_false
 ex_false g σ c a f m w d i s b r = (λ x. x (λ v o y. y), λ x. absurd x)
 
+-- one beside the others
+infixr 30 ◌⊗◌
+abbrev pub ◌⊗◌ : {P Q : Type 0} → P → Q → P × Q
+p ⊗ q = (p, q)
+
 -- all of them
 pub all_mean : AllMean logic_rows
-all_mean = (close, (close_true, (close_false, (not_left, (not_right, (and_left, (and_right, (or_left, (or_right, (imp_left, (imp_right,
-    (iff_left, (iff_right, (all_right, (ex_left, (all_left, (ex_right, (cut, (hide_left, (hide_right, (eq_refl, (eq_sym, (apply_eq,
-    (known_left, (known_right, (bool_cases, (bool_distinct, (not_true, (not_false, (not_not, (and_true_left, (and_true_right,
-    (and_false_left, (and_false_right, (or_true_left, (or_true_right, (or_false_left, (or_false_right, (imp_true_left, (imp_true_right,
-    (imp_false_left, (imp_false_right, (all_true, (ex_false, tt))))))))))))))))))))))))))))))))))))))))))))
+all_mean =
+    close ⊗ close_true ⊗ close_false ⊗ not_left ⊗ not_right ⊗ and_left ⊗ and_right ⊗ or_left ⊗ or_right ⊗ imp_left ⊗ imp_right ⊗ iff_left ⊗ iff_right ⊗
+    all_right ⊗ ex_left ⊗ all_left ⊗ ex_right ⊗ cut ⊗ hide_left ⊗ hide_right ⊗ eq_refl ⊗ eq_sym ⊗ apply_eq ⊗ known_left ⊗ known_right ⊗ bool_cases ⊗
+    bool_distinct ⊗ not_true ⊗ not_false ⊗ not_not ⊗ and_true_left ⊗ and_true_right ⊗ and_false_left ⊗ and_false_right ⊗ or_true_left ⊗ or_true_right ⊗
+    or_false_left ⊗ or_false_right ⊗ imp_true_left ⊗ imp_true_right ⊗ imp_false_left ⊗ imp_false_right ⊗ all_true ⊗ ex_false ⊗ tt

@@ -2,7 +2,7 @@
 use Rattle.std.specs.Prelude.{true, false, List, [], ◌∷◌, codes}
 use Rattle.jd_base.specs.declared.sort.Sort.TheVariants.{Bool as BoolSort}
 use Rattle.jd_model.specs.declared.sequent.Side.TheVariants.{Left, Right}
-use Rattle.jd_patterns.specs.Patterns.{SchemaVar, SortPattern, SortVar, SortIs, NameVar, TermPattern, AnyTerm, TermOf, Constant, FormulaPattern, FormulaVar, PutIn, TrueFormula, FalseFormula, Not}
+use Rattle.jd_patterns.specs.Patterns.{SortPattern, SortVar, SortIs, NameVar, TermPattern, AnyTerm, TermOf, Constant, FormulaPattern, FormulaVar, PutIn, TrueFormula, FalseFormula, Not}
 use Rattle.jd_taclets.specs.Conditions.{SteadyIn, IndexSort}
 use Rattle.jd_taclets.specs.Taclets.{SortOf, InstVar, AFormula, ATerm, NewConstant, Taclet}
 use Rattle.jd_taclets.specs.Writing.{and, or, imp, iff, eq, forall_, exists_, boolean, goal, plus, left_row, right_row, free_row, formula_row, term_row}

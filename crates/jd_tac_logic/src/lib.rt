@@ -3,4 +3,4 @@
 
 mod laws;
 
-pub use laws::{logic_rows_mean, logic_rows_are_found};
+pub use laws::{logic_rows_are_found, logic_rows_mean};

@@ -1,5 +1,5 @@
 -- The worked rows mean what they should.
-use Rattle.std.proofs.Common.{◌≡◌, ◌↔◌, inl, ℕ, zero, suc, Bool, true, false, pos, negsuc, ◌+ℤ◌, ◌-ℤ◌, int_le, not, nat_eq, List, [], ◌∷◌, Option, Some, None, refl, sym, ap, ◌∙◌, subst, arith, true≢false, cond}
+use Rattle.std.proofs.Common.{◌≡◌, inl, ℕ, zero, suc, Bool, true, false, pos, negsuc, ◌+ℤ◌, ◌-ℤ◌, int_le, not, nat_eq, List, [], ◌∷◌, Some, refl, sym, ap, ◌∙◌, subst, arith, true≢false, cond}
 use Rattle.std.specs.Prelude.{codes}
 use Rattle.std.proofs.lemmas.Bool.{eqb-true}
 use Rattle.jd_base.specs.declared.sort.Sort.{Sort}
@@ -7,12 +7,12 @@ use Rattle.jd_base.specs.declared.sort.Sort.TheVariants.{Int as IntSort, Bool as
 use Rattle.jd_syntax.specs.Names.{Name}
 use Rattle.jd_syntax.specs.Codes.{PlainKind, OfClass, IntArray, Expr, IntLiteral, BoolLiteral, NullLiteral, Variable, Stmt, Set, Block, Break, Return, ReturnVoid, Frame, PlainCode, Then, Done}
 use Rattle.jd_term.specs.Terms.{PlainTerm, sort_of_term, Number, Bound, Arithmetic, NamedField, ElementField}
-use Rattle.jd_term.specs.Formulas.{Pairs, PlainFormula, And, Implies, LessOrEqual}
+use Rattle.jd_term.specs.Formulas.{PlainFormula, And, Implies, LessOrEqual}
 use Rattle.jd_term.specs.declared.term.ArithmeticOp.TheVariants.{Add, Subtract}
 use Rattle.jd_term.specs.Substitutions.{SortsAgree, formula_subst}
-use Rattle.jd_heap.specs.References.{Reference, Null, Object, Array, location, is_created_field}
+use Rattle.jd_heap.specs.References.{Reference, Object, Array, is_created_field}
 use Rattle.jd_heap.specs.HeapLaws.{IsEntrySort}
-use Rattle.jd_heap.specs.Values.{Value, IntValue, RefValue, as_int, as_ref, as_field, as_heap, IsOf, default}
+use Rattle.jd_heap.specs.Values.{Value, IntValue, RefValue, as_ref, as_field, IsOf, default}
 use Rattle.jd_heap.proofs.HeapLaws.{select_over_store, select_over_create}
 use Rattle.jd_model.specs.Closed.{BelowIn}
 use Rattle.jd_model.specs.Contexts.{one}
@@ -191,4 +191,5 @@ rows_mean = (fold_add, (int_ind, (sel_store_obj, (sel_create_default, (inst_exac
 pub rows_are_found : AllFinds worked_rows × AllFinds read_rows
 rows_are_found = (
   (((tt, tt), tt), ((tt, tt), (((((tt, (tt, (tt, tt)))), (tt, tt)), ((tt, tt), tt)), ((((tt, tt), (tt, tt)), tt), ((tt, (tt, tt)), (((tt, (tt, tt)), tt), (((tt, (tt, tt)), tt), (((tt, ((tt, tt), tt)), tt), (((tt, ((tt, tt), tt)), tt), tt))))))))),
-  (((tt, (tt, (tt, tt))), tt), (((tt, tt), (tt, tt)), (((tt, (tt, tt)), tt), (((tt, (((tt, tt), tt), tt)), tt), tt)))))
+  (((tt, (tt, (tt, tt))), tt), (((tt, tt), (tt, tt)), (((tt, (tt, tt)), tt), (((tt, (((tt, tt), tt), tt)), tt), tt)))),
+)

@@ -5,16 +5,15 @@
 --   and the typing in `wfStore`, the invariants in `invExact`, and the sort of a field in `setGet`;
 -- - what holds of each place of a sorted and closed sequent, so that no step needs to test it: which sort the index has that a quantifier
 --   binds, that a select has a sort that entries have, and that a whole formula's body has no other free index.
-use Rattle.std.specs.Prelude.{◌≡◌, ◌≢◌, ◌&&◌, ◌||◌, ℕ, zero, suc, ℤ, pos, neg_ℤ, Bool, true, false, cond, nat_eq, int_lt, int_le, List, [], ◌∷◌, ◌++◌, ◌^◌, ◌-ℤ◌, if◌then◌else◌}
+use Rattle.std.specs.Prelude.{◌≡◌, ◌≢◌, ◌&&◌, ℕ, ℤ, pos, neg_ℤ, Bool, true, false, cond, nat_eq, int_lt, int_le, List, [], ◌∷◌, ◌++◌, ◌^◌}
 use Rattle.jd_base.specs.declared.sort.Sort.{Sort}
-use Rattle.jd_base.specs.declared.sort.Sort.TheVariants.{Int as IntSort, Bool as BoolSort, Ref as RefSort, Heap as HeapSort, Field as FieldSort}
-use Rattle.jd_syntax.specs.Names.{Name}
+use Rattle.jd_base.specs.declared.sort.Sort.TheVariants.{Int as IntSort, Bool as BoolSort, Heap as HeapSort}
 use Rattle.jd_syntax.specs.CodeNames.{same_name, heap_name}
 use Rattle.jd_syntax.specs.Codes.{PlainKind, OfClass, IntArray, Expr, IntLiteral, BoolLiteral, NullLiteral}
 use Rattle.jd_term.specs.declared.term.ArithmeticOp.{ArithmeticOp}
 use Rattle.jd_term.specs.Terms.{PlainTerm, sort_of_term, Number, Boolean, NullTerm, ProgramVariable, Constant, NamedField, CreatedField, ElementField}
 use Rattle.jd_term.specs.Formulas.{PlainFormula, TrueFormula, FalseFormula, And, Or, Equal, InInt, IsInstance}
-use Rattle.jd_term.specs.Renamings.{Renaming, rename}
+use Rattle.jd_term.specs.Renamings.{Renaming}
 use Rattle.jd_term.specs.Substitutions.{SortsAgree, TermSortsAgree}
 use Rattle.jd_heap.specs.HeapLaws.{IsEntrySort}
 use Rattle.jd_model.specs.SpecialNames.{receiver}

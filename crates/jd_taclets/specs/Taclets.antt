@@ -1,9 +1,9 @@
 -- Taclets: the rows of rules as plain data, and what it is that a row is sound (The KeY Book, 4.2 and 4.4).
-use Rattle.std.specs.Prelude.{◌≡◌, ℕ, Bool, true, false, List, [], ◌∷◌, Option, Some, None}
+use Rattle.std.specs.Prelude.{◌≡◌, ℕ, Bool, List, [], ◌∷◌, Option, Some, None}
 use Rattle.jd_base.specs.declared.sort.Sort.{Sort}
 use Rattle.jd_syntax.specs.Names.{Name}
 use Rattle.jd_syntax.specs.CodeNames.{heap_name}
-use Rattle.jd_term.specs.Terms.{PlainTerm, sort_of_term}
+use Rattle.jd_term.specs.Terms.{sort_of_term}
 use Rattle.jd_term.specs.Formulas.{PlainFormula}
 use Rattle.jd_heap.specs.Values.{Value}
 use Rattle.jd_model.specs.declared.sequent.Side.{Side}
@@ -94,12 +94,12 @@ module _ (p : Program) (σ : Instance) where
   -- what is given has the sort that is asked for
   abbrev pub IsAsked : InstVar → Type 0
   IsAsked v = elim v.form as (λ _. Type 0) [
-    AFormula ↦ Unit {0}
+    | AFormula ↦ Unit {0}
     | ANumber ↦ Unit {0}
     | ATerm s ↦ sort_of_term (σ.term v.name) ≡ asked_sort s
     | NewConstant s ↦ (σ.name v.name).sort ≡ asked_sort s
     | NewVariable s ↦ (σ.name v.name).sort ≡ asked_sort s
-    ]
+  ]
 
   abbrev pub AllAsked : List InstVar → Type 0
   AllAsked [] = Unit {0}

@@ -8,7 +8,7 @@ use Rattle.jd_syntax.specs.CodeNames.{heap_name}
 use Rattle.jd_term.specs.declared.term.ArithmeticOp.TheVariants.{Add, Subtract}
 use Rattle.jd_term.specs.Terms.{Bound, NullTerm}
 use Rattle.jd_model.specs.declared.sequent.Side.TheVariants.{Left, Right}
-use Rattle.jd_patterns.specs.Patterns.{SortPattern, SortVar, SortIs, KindPattern, KindVar, NameVar, NameIs, ResultIn, NullPointer, ClassOf, Simple, SimpleAt, Variable, ReadField, StmtPattern, Set, Block, BlockPast, Break, Frame, Finally, Return, ReturnVar, Raise, CodePattern, Done, Then, CodeThen, TermPattern, AnyTerm, TermOf, LiteralVar, FieldVar, OfSimple, ProgramVariable, Given, Arithmetic, Select, Store, Create, FormulaPattern, FormulaVar, PutIn, Updated, Compared, InvariantOf, Tested, WellFormedOf, Classed, InstanceTest, ExactTest}
+use Rattle.jd_patterns.specs.Patterns.{SortPattern, SortVar, SortIs, KindPattern, KindVar, NameVar, NameIs, ResultIn, NullPointer, ClassOf, Simple, SimpleAt, Variable, ReadField, Set, Block, BlockPast, Break, Frame, Finally, Return, ReturnVar, Raise, CodePattern, Done, Then, CodeThen, TermPattern, AnyTerm, TermOf, LiteralVar, FieldVar, OfSimple, ProgramVariable, Given, Arithmetic, Select, Store, Create, FormulaPattern, FormulaVar, PutIn, Updated, Compared, InvariantOf, Tested, WellFormedOf, Classed, InstanceTest, ExactTest}
 use Rattle.jd_taclets.specs.Conditions.{NumberOf, Operation, NamedFieldTerm, FieldTakes, Calculated, WhetherBelow, DefaultTerm, FieldHasSort, DeclaredBy, TypingOf, InvariantsOf, IndexSort, EntrySort, OnlyIndex}
 use Rattle.jd_taclets.specs.Taclets.{SortOfSimple, InstVar, NewVariable, Taclet}
 use Rattle.jd_taclets.specs.Writing.{and, imp, eq, le, forall_, number, case, focused, statement, goal, right_row, formula_row, term_row}
@@ -66,10 +66,10 @@ fold_add = term_row (codes "foldAdd") (Arithmetic Add (LiteralVar (codes "m")) (
 -- intInd R (forall Int A) => ==> A[0] and the two steps, which keep the formula's own index below the new binder
 abbrev pub int_ind : Taclet
 int_ind = right_row (codes "intInd") (forall_ Int A) [] [] (IndexSort (codes "A") Int ∷ OnlyIndex (codes "A") ∷ []) (
-  goal [] (A_of (number (pos 0)) ∷ [])
-  ∷ goal [] (forall_ Int (imp (and (le (number (pos 0)) x) A) (A_of (Arithmetic Add x (number (pos 1))))) ∷ [])
-  ∷ goal [] (forall_ Int (imp (and (le x (number (pos 0))) A) (A_of (Arithmetic Subtract x (number (pos 1))))) ∷ [])
-  ∷ [])
+    goal [] (A_of (number (pos 0)) ∷ [])
+    ∷ goal [] (forall_ Int (imp (and (le (number (pos 0)) x) A) (A_of (Arithmetic Add x (number (pos 1))))) ∷ [])
+    ∷ goal [] (forall_ Int (imp (and (le x (number (pos 0))) A) (A_of (Arithmetic Subtract x (number (pos 1))))) ∷ [])
+    ∷ [])
 
 -- ---- heaps
 

@@ -1,12 +1,11 @@
 -- How rows are written: forms of patterns by the names of the row, and rows by their kinds.
-use Rattle.std.specs.Prelude.{ℕ, Bool, true, false, ℤ, pos, List, [], ◌∷◌, Option, Some, None, codes}
-use Rattle.jd_base.specs.declared.sort.Sort.{Sort}
+use Rattle.std.specs.Prelude.{ℕ, Bool, true, false, ℤ, List, [], ◌∷◌, Some, None, codes}
 use Rattle.jd_base.specs.declared.sort.Sort.TheVariants.{Bool as BoolSort}
-use Rattle.jd_term.specs.Terms.{Number, Boolean, NullTerm, CreatedField}
+use Rattle.jd_term.specs.Terms.{Number, Boolean, CreatedField}
 use Rattle.jd_model.specs.declared.sequent.Side.{Side}
-use Rattle.jd_patterns.specs.Patterns.{SchemaVar, SortPattern, SortIs, TermPattern, AnyTerm, Given, Select, FormulaPattern, FormulaVar, Connected, AndOf, OrOf, ImpliesOf, IffOf, Compared, EqualOf, LessOf, LessOrEqualOf, Quantified, ForallOf, ExistsOf, CodePattern, Focus, Not, StmtPattern, Then, Done}
+use Rattle.jd_patterns.specs.Patterns.{SortPattern, SortIs, TermPattern, Given, Select, FormulaPattern, FormulaVar, Connected, AndOf, OrOf, ImpliesOf, IffOf, Compared, EqualOf, LessOf, LessOrEqualOf, Quantified, ForallOf, ExistsOf, CodePattern, Focus, Not, StmtPattern, Then, Done}
 use Rattle.jd_taclets.specs.Conditions.{Condition}
-use Rattle.jd_taclets.specs.Taclets.{TacletKind, OnLeft, OnRight, AtFormula, AtTerm, Free, Pattern, FormulaFind, TermFind, InstVar, TacletGoal, Taclet}
+use Rattle.jd_taclets.specs.Taclets.{OnLeft, OnRight, AtFormula, AtTerm, Free, Pattern, FormulaFind, TermFind, InstVar, TacletGoal, Taclet}
 
 -- ---- forms
 

@@ -3,4 +3,4 @@
 
 mod laws;
 
-pub use laws::{worked_rows_mean, worked_rows_are_found};
+pub use laws::{worked_rows_are_found, worked_rows_mean};

@@ -1,6 +1,5 @@
 -- Exact tests of equality of terms, code, formulas and contexts: two trees are the same where their forms and their parts are.
-use Rattle.std.proofs.Common.{◌≡◌, ◌&&◌, Bool, true, false, List, [], ◌∷◌, refl, sym, ap, subst, true≢false}
-use Rattle.jd_syntax.specs.Names.{Name}
+use Rattle.std.proofs.Common.{◌≡◌, ◌&&◌, Bool, true, false, [], ◌∷◌, refl, sym, subst, true≢false}
 use Rattle.jd_syntax.specs.Codes.{Expr, Exprs, Stmt, PlainCode, IntLiteral, BoolLiteral, NullLiteral, Variable, Unary, Binary, AndAlso, OrElse, Conditional, ReadField, ReadElement, LengthOf, Cast, InstanceOf, VirtualCall, StaticCall, ConstructorCall, DoThen, NoExprs, ExprThen, Set, WriteField, WriteElement, Evaluate, If, While, Block, Break, Catch, Finally, Throw, ThrowUnchecked, Return, ReturnVoid, Frame, Raise, AllocObject, AllocArray, NewArray, Stop, Done, Then}
 use Rattle.jd_term.specs.Terms.{PlainTerm, PlainLoc, Number, Boolean, NullTerm, ProgramVariable, Constant, Bound, Arithmetic, Negation, Wrap, Length, Select, Sum, Store, Create, Anon, NamedField, CreatedField, ElementField, NoLocations, AllLocations, Single, ObjectFields, ArrayElements, ElementRange, Union}
 use Rattle.jd_term.specs.Formulas.{Pairs, PlainFormula, TrueFormula, FalseFormula, Not, And, Or, Implies, Iff, Equal, Less, LessOrEqual, Forall, Exists, Updated, Modal, InLocations, InInt, WellFormed, Invariant, IsInstance, IsExactInstance}
