@@ -1,0 +1,6 @@
+ghost use Rattle.jd_taclet_steps.specs.Steps.{StepsOfSoundRowsAreSound};
+
+/// A law, without code: a step of a sound row, at a closed sequent, leads from valid premises to a valid sequent.
+pub fn steps_of_sound_rows_are_sound()
+    ensures { StepsOfSoundRowsAreSound }
+{}

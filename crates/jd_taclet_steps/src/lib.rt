@@ -1,0 +1,6 @@
+//! Steps of taclets, as a relation between sequents and premises, and that they are sound: definitions and a law, without code.
+#![tactic(auto)]
+
+mod laws;
+
+pub use laws::steps_of_sound_rows_are_sound;
