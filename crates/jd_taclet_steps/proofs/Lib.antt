@@ -1,2 +1,3 @@
 pub mod Refuting
 pub mod Soundness
+pub mod Places
