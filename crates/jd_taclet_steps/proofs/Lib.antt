@@ -1,3 +1,4 @@
 pub mod Refuting
 pub mod Soundness
 pub mod Places
+pub mod TermPlaces
