@@ -1,4 +1,5 @@
 ghost use Rattle.jd_taclet_steps.specs.Places.{PlacesAreSurrounded};
+ghost use Rattle.jd_taclet_steps.specs.PutTerms.{TermsAreReplaced};
 ghost use Rattle.jd_taclet_steps.specs.Steps.{StepsOfSoundRowsAreSound};
 ghost use Rattle.jd_taclet_steps.specs.TermPlaces.{TermPlacesAreSurrounded};
 
@@ -15,4 +16,9 @@ pub fn places_are_surrounded()
 /// A law, without code: the places of terms by paths are those that something surrounds.
 pub fn term_places_are_surrounded()
     ensures { TermPlacesAreSurrounded }
+{}
+
+/// A law, without code: a term that is put at a place by its path stands in what surrounds the place.
+pub fn terms_are_replaced()
+    ensures { TermsAreReplaced }
 {}

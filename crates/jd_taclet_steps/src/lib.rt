@@ -3,4 +3,7 @@
 
 mod laws;
 
-pub use laws::{places_are_surrounded, steps_of_sound_rows_are_sound, term_places_are_surrounded};
+pub use laws::{
+    places_are_surrounded, steps_of_sound_rows_are_sound, term_places_are_surrounded,
+    terms_are_replaced,
+};
