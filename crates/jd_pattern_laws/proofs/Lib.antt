@@ -1,0 +1,7 @@
+pub mod Meets
+pub mod Exact
+pub mod Made
+pub mod Keeping
+pub mod Chosen
+pub mod Filling
+pub mod AllLaws

@@ -1,0 +1,6 @@
+//! The rows of logic: sequents taken apart, equations, and connectives with `true` and `false`.
+#![tactic(auto)]
+
+mod laws;
+
+pub use laws::{logic_rows_are_found, logic_rows_mean};

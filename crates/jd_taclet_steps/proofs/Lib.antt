@@ -1,0 +1,5 @@
+pub mod Refuting
+pub mod Soundness
+pub mod Places
+pub mod TermPlaces
+pub mod PutTerms

@@ -1,0 +1,4 @@
+pub mod Conditions
+pub mod Taclets
+pub mod Writing
+pub mod WorkedRows

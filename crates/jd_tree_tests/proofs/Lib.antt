@@ -1,0 +1,3 @@
+pub mod PlainTests
+pub mod TreeTests
+pub mod AllTests
