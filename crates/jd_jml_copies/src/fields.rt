@@ -1,6 +1,5 @@
 //! What is said of fields without words.
 
-ghost use Rattle.std.specs.Prelude.{◌≡◌};
 ghost use Rattle.jd_jml_copies.specs.Made.{GivesSpec};
 ghost use Rattle.jd_jml_copies.specs.NotNull as plain;
 ghost use Rattle.jd_syntax.specs.JavaTypes.{identifier_view};
