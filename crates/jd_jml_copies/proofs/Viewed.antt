@@ -14,7 +14,7 @@ use Rattle.jd_syntax.specs.declared.spec.SpecForm.TheVariants as forms
 use Rattle.jd_syntax.specs.declared.spec.SpecType.{SpecType}
 use Rattle.jd_syntax.specs.JavaTypes.{identifier_view, written_view}
 use Rattle.jd_syntax.specs.SpecTrees as trees
-use Rattle.jd_syntax.specs.SpecTrees.{PlainLocation, PlainSpec, location_view, spec_form_layer, spec_layer, spec_type_view, spec_view, specs_of}
+use Rattle.jd_syntax.specs.SpecTrees.{PlainLocation, PlainSpec, spec_form_layer, spec_layer, spec_type_view, spec_view, specs_of}
 use Rattle.jd_jml_copies.specs.Made.{GivesLocation, GivesSpec}
 
 -- what was made of the parts is a copy

@@ -1,7 +1,7 @@
 //! Makers of expressions of JML: each takes the results of its parts and gives the result of the whole, so that calls nest without a `?`.
 
-ghost use Rattle.std.specs.Prelude.{◌≡◌, List, ℕ};
-ghost use Rattle.jd_jml_copies.specs.Made.{GivesBound, GivesBoxed, GivesBytes, GivesIdentifier, GivesSpec, GivesSpecs, GivesType, GivesWritten};
+ghost use Rattle.std.specs.Prelude.{List, ℕ};
+ghost use Rattle.jd_jml_copies.specs.Made.{GivesBound, GivesBoxed, GivesBytes, GivesIdentifier, GivesSpec, GivesSpecs, GivesWritten};
 ghost use Rattle.jd_syntax.specs.JavaTypes.{PlainIdentifier, PlainWritten};
 ghost use Rattle.jd_syntax.specs.SpecTrees.{Call, Cast, Conditional, Equivalent, Field, Fresh, Implies, Index, Infix, InstanceOf, InvariantFor, MethodCall, Old, Parenthesized, PlainSpec, PlainSpecType, Prefix, Quantified, QuantifiedIn, Sum, specs_of};
 

@@ -1,5 +1,5 @@
 -- Where expressions and clauses stand, and what clauses say so far, as plain records.
-use Rattle.std.specs.Prelude.{false, List, [], Option, None, Result, Ok, Err}
+use Rattle.std.specs.Prelude.{false, [], Option, None, Result, Ok, Err}
 use Rattle.jd_syntax.specs.JavaTypes.{PlainIdentifier}
 use Rattle.jd_syntax.specs.SpecTrees.{PlainSpec}
 use Rattle.jd_bodies.specs.Declarations.{Declarations}

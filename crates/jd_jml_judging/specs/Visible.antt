@@ -1,6 +1,5 @@
 -- The names that code has in scope, as plain lists.
 use Rattle.std.specs.Prelude.{ℕ, Bool, true, false, List, [], ◌∷◌, map, reverse}
-use Rattle.jd_bodies.specs.declared.value.ValueType.{ValueType}
 use Rattle.jd_specifications.specs.Scopes.{Named, AParameter, ALocal, AnException, ABound, is_local, SpecLocal}
 use Rattle.jd_jml_judging.specs.declared.method_names.Entry.{Entry}
 use Rattle.jd_jml_judging.specs.declared.method_names.Known.{Known}

@@ -10,7 +10,7 @@ use Rattle.jd_bodies.specs.Declarations.{Declarations, class_type}
 use Rattle.jd_specifications.specs.declared.fault.SpecFault.{SpecFault}
 use Rattle.jd_specifications.specs.Scopes.{SpecLocal, and_then}
 use Rattle.jd_specifications.specs.Clauses.{Sofar, at_first}
-use Rattle.jd_specifications.specs.Refused.{type_written, local, declared_names, for_locals, loop_locals, optional_block, around, keeping, stmt, stmts, handlers}
+use Rattle.jd_specifications.specs.Refused.{type_written, local, declared_names, for_locals, loop_locals, optional_block, around, stmt, stmts, handlers}
 
 abbrev Names : Type 0
 Names = List SpecLocal

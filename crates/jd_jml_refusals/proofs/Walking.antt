@@ -1,5 +1,5 @@
 -- The JML of the classes of the files, one after the other.
-use Rattle.std.proofs.Common.{◌≡◌, Bool, true, false, is_some, ℕ, zero, suc, ◌+◌, ◌-◌, ◌≤◌, List, [], ◌∷◌, length, drop, Option, Some, None, Result, Ok, Err, option_map, refl, sym, ap, ◌∙◌, arith, slice_get}
+use Rattle.std.proofs.Common.{◌≡◌, Bool, true, false, is_some, ℕ, suc, ◌+◌, ◌-◌, ◌≤◌, List, length, drop, Option, Some, None, Result, Ok, Err, option_map, refl, sym, ap, ◌∙◌, arith, slice_get}
 use Rattle.std.proofs.lemmas.Option.{none-some}
 use Rattle.jd_syntax.specs.JavaTrees.{JavaUnit}
 use Rattle.jd_jclasses.specs.Classes.{declared_classes}

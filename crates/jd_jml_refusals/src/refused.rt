@@ -1,6 +1,6 @@
 //! The first refused token of a program's JML.
 
-ghost use Rattle.std.specs.Prelude.{◌≡◌, ◌<◌, List, IfOk, option_map};
+ghost use Rattle.std.specs.Prelude.{◌≡◌, List, IfOk, option_map};
 ghost use Rattle.jd_classes.specs.Tables.{AreTables};
 ghost use Rattle.jd_jinfos.specs.Views.{class_info_view};
 ghost use Rattle.jd_jml_refusals.specs.First.{IsFirst, class_fault, refused_view};

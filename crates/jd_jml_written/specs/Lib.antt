@@ -1,3 +1,5 @@
+pub mod Loops
 pub mod Marked
 pub mod Parts
+pub mod Said
 pub mod Views

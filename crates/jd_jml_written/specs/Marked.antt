@@ -1,10 +1,12 @@
 -- The cases that are written at a method or constructor, with what the words at its declaration say, and the invariants of a class.
-use Rattle.std.specs.Prelude.{ℕ, Bool, true, false, List, [], ◌∷◌, ◌++◌, map, cond, Option, Some, None}
-use Rattle.jd_syntax.specs.JavaTypes.{PlainIdentifier, PlainType, IntType, BooleanType, IntArrayType, NamedType}
-use Rattle.jd_syntax.specs.SpecTrees.{PlainSpec, Infix, Field, This, Null, PlainClause, Invariant, PlainSpecBlock}
+use Rattle.std.specs.Prelude.{ℕ, Bool, true, false, List, [], ◌++◌, map, flat_map, cond}
+use Rattle.jd_syntax.specs.JavaTypes.{PlainType, IntType, BooleanType, IntArrayType, NamedType}
+use Rattle.jd_syntax.specs.SpecTrees.{PlainSpec, PlainClause}
 use Rattle.jd_syntax.specs.JavaTrees.{JavaParameter, JavaMethod, JavaField, JavaMember, FieldMember, ConstantMember, MethodMember, JavaClass}
-use Rattle.jd_syntax.specs.declared.java.InfixOperator.TheVariants as operators
 use Rattle.jd_specifications.specs.WrittenCases.{all_clauses, cases_of, has_mark, is_helper, is_nullable, is_pure}
+use Rattle.jd_jml_copies.specs.NotNull.{not_null}
+use Rattle.jd_jml_written.specs.Loops.{clauses_at}
+use Rattle.jd_jml_written.specs.Said.{invariant_in}
 
 -- ---- cases
 
@@ -40,18 +42,13 @@ own_cases declared m = map (case_of declared (marks_of m)) (cases_of m.specs)
 -- ---- invariants: those that are written, and at the place of each reference field without `nullable` that it is not null
 
 abbrev pub written_invariants : List PlainClause → List PlainSpec
-written_invariants [] = []
-written_invariants (Invariant at e ∷ cs) = e ∷ written_invariants cs
-written_invariants (c ∷ cs) = written_invariants cs
+written_invariants cs = flat_map invariant_in cs
 
 abbrev pub holds_reference : PlainType → Bool
 holds_reference IntType = false
 holds_reference BooleanType = false
-holds_reference t = true
-
--- `this.x != null`, at the place of the field's name
-abbrev pub not_null : PlainIdentifier → PlainSpec
-not_null x = Infix x.at operators.NotEqual (Field x.at (This x.at) x) (Null x.at)
+holds_reference IntArrayType = true
+holds_reference (NamedType name) = true
 
 abbrev pub field_invariants : JavaField → List PlainSpec
 field_invariants f = cond (holds_reference f.ty.written) (cond (has_mark is_nullable f.specs) [] (map not_null f.names)) []
@@ -61,14 +58,6 @@ member_invariants (FieldMember f) = written_invariants (all_clauses f.specs) ++ 
 member_invariants (ConstantMember c) = written_invariants (all_clauses c.specs)
 member_invariants (MethodMember m) = written_invariants (all_clauses m.specs)
 
-abbrev pub members_invariants : List JavaMember → List PlainSpec
-members_invariants [] = []
-members_invariants (m ∷ ms) = member_invariants m ++ members_invariants ms
-
-abbrev pub end_invariants : Option PlainSpecBlock → List PlainSpec
-end_invariants None = []
-end_invariants (Some b) = written_invariants b.clauses
-
 -- in the order of the text
 abbrev pub class_invariants : JavaClass → List PlainSpec
-class_invariants c = members_invariants c.members ++ end_invariants c.end
+class_invariants c = flat_map member_invariants c.members ++ written_invariants (clauses_at c.end)

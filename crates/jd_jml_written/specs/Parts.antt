@@ -1,5 +1,5 @@
 -- What clauses and words are to the cases of a contract, and to the invariants.
-use Rattle.std.specs.Prelude.{List, ◌∷◌, Option, None}
+use Rattle.std.specs.Prelude.{List, Option, None}
 use Rattle.jd_syntax.specs.SpecTrees.{PlainClause, Also, LoopInvariant, Decreases, Invariant, Pure, Helper, Nullable, NonNull, SpecPublic, SpecProtected}
 use Rattle.jd_specifications.specs.WrittenCases.{cases_from, joined, more}
 use Rattle.jd_jml_written.specs.declared.cases.Part.{Part}

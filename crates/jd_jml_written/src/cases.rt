@@ -6,13 +6,13 @@ ghost use Rattle.jd_jml_written.specs.Parts as parts;
 ghost use Rattle.jd_jml_written.specs.Views.{case_view, current_view, ended_by, marks_view};
 ghost use Rattle.jd_specifications.specs.WrittenCases.{more};
 ghost use Rattle.jd_syntax.specs.JavaTrees.{method_view};
-ghost use Rattle.jd_syntax.specs.SpecTrees.{PlainClause, clause_view, spec_block_view};
+ghost use Rattle.jd_syntax.specs.SpecTrees.{PlainClause, clause_view};
 
 use crate::marks::marks_of;
 use jd_base::{MethodId, NoMemory, both};
 use jd_jml_copies::copy_clause;
 use jd_lists::ended;
-use jd_syntax::{ClauseForm, Marks, MethodDecl, SpecBlock, SpecCase, SpecClause};
+use jd_syntax::{ClauseForm, Marks, MethodDecl, SpecCase, SpecClause};
 use std::alloc::Global;
 
 // What a clause or word is to the cases of a contract.

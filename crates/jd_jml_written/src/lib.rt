@@ -1,7 +1,12 @@
-//! The cases that are written at a method or constructor, with what the words at its declaration say.
+//! The JML that is written at a declaration: the cases of a method, the clauses of the loops in its body, the invariants of a class.
 #![tactic(auto)]
 
 mod cases;
+mod invariants;
+mod loops;
 mod marks;
+mod said;
 
 pub use cases::own_cases;
+pub use invariants::class_invariants;
+pub use loops::{LoopAnn, body_loops};

@@ -1,4 +1,4 @@
-use Rattle.std.proofs.Common.{◌≡◌, List, map, option_map, refl, sym, ap, subst, ◌∙◌}
+use Rattle.std.proofs.Common.{List, map, option_map, refl, sym, ap, subst, ◌∙◌}
 use Rattle.jd_syntax.specs.declared.java.Handler.{Handler}
 use Rattle.jd_syntax.specs.declared.java.Stmt.{Stmt}
 use Rattle.jd_syntax.specs.JavaTrees.{java_handlers, java_stmt_view, java_stmts}
