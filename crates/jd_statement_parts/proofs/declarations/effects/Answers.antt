@@ -11,11 +11,15 @@ loop-e-init g c = (λ q ls h. ([], q, h, c.no_stmts-made.ensures, effects_begin 
 
 pub loop-e-preserved : goal.loop-e-preserved
 loop-e-preserved g c = (
-    λ q ls h.
-        let i = c.loop-e.invariant.0 q ls h in
-        (i.0 ++ (effect_lines (g.D.Declares.declarations c.args.m.now.declared.now) c.args.m.now.place ls (java_view c.e-item.result) i.1).1, (effect_lines (g.D.Declares.declarations c.args.m.now.declared.now) c.args.m.now.place ls (java_view c.e-item.result) i.1).0, c.effect_code.ensures.stands i.1 ls i.2, c.appended_stmts-made.ensures i.0 (effect_lines (g.D.Declares.declarations c.args.m.now.declared.now) c.args.m.now.place ls (java_view c.e-item.result) i.1).1 i.3 (c.effect_code.ensures.stmts i.1 ls i.2),
-        next_effect (g.D.Declares.declarations c.args.m.now.declared.now) c.args.m.now.place ls c.args.es.now c.loop-e.e-index c.e-item.result i.0 i.1 (effects_lines (g.D.Declares.declarations c.args.m.now.declared.now) c.args.m.now.place ls (map java_view c.args.es.now) q) c.loop-e-test.true c.e-item.is i.4),
-    λ w. c.loop-e.invariant.1 (c.effect_code.ensures.works w),
+  λ q ls h.
+      let i = c.loop-e.invariant.0 q ls h in (
+        i.0 ++ (effect_lines (g.D.Declares.declarations c.args.m.now.declared.now) c.args.m.now.place ls (java_view c.e-item.result) i.1).1,
+        (effect_lines (g.D.Declares.declarations c.args.m.now.declared.now) c.args.m.now.place ls (java_view c.e-item.result) i.1).0,
+        c.effect_code.ensures.stands i.1 ls i.2,
+        c.appended_stmts-made.ensures i.0 (effect_lines (g.D.Declares.declarations c.args.m.now.declared.now) c.args.m.now.place ls (java_view c.e-item.result) i.1).1 i.3 (c.effect_code.ensures.stmts i.1 ls i.2),
+        next_effect (g.D.Declares.declarations c.args.m.now.declared.now) c.args.m.now.place ls c.args.es.now c.loop-e.e-index c.e-item.result i.0 i.1 (effects_lines (g.D.Declares.declarations c.args.m.now.declared.now) c.args.m.now.place ls (map java_view c.args.es.now) q) c.loop-e-test.true c.e-item.is i.4,
+      ),
+  λ w. c.loop-e.invariant.1 (c.effect_code.ensures.works w),
 )
 
 pub returns-clause-stands : goal.returns-clause-stands
