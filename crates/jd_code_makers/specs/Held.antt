@@ -1,5 +1,5 @@
 -- What a body's code has by now.
-use Rattle.std.specs.Prelude.{◌≡◌, ℕ, false, List, length, filter, map}
+use Rattle.std.specs.Prelude.{◌≡◌, ℕ, false, List, [], ◌∷◌, ◌++◌, length, filter, map}
 use Rattle.std.specs.Global.{Vec}
 use Rattle.std.specs.Map.{lookup}
 use Rattle.std.specs.Option.{unwrap_or}
@@ -7,6 +7,7 @@ use Rattle.std.specs.Str.{bytes_eq}
 use Rattle.jd_syntax.specs.Names.{Name, Declared, decl_view, var_view}
 use Rattle.jd_syntax.specs.declared.variable.VarId.{VarId}
 use Rattle.jd_bodies.specs.Variables as plain
+use Rattle.jd_bodies.specs.declared.value.ValueType.TheVariants as types
 use Rattle.jd_code_makers.specs.declared.progress.Progress.{Progress}
 
 -- how many parameters and locals have the name
@@ -55,3 +56,7 @@ Works p = p.has_failed ≡ false
 -- and then this is there
 pub record Holds (p : Progress) (q : plain.Progress) : Type 0 where
   pub held : Works p → IsProgress (parts p) q
+
+-- `this`, an object of the class, behind the variables
+abbrev pub with_receiver : ℕ → plain.Progress → plain.Progress
+with_receiver class q = record q { variables = q.variables ++ (plain.declared plain.this_name (types.Class class) ∷ []) }

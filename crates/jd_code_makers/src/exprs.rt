@@ -9,7 +9,8 @@ ghost use Rattle.jd_syntax.specs.Codes.{Expr, Stmt, exprs_of, stmts_of};
 ghost use Rattle.jd_syntax.specs.Names.{Name};
 
 use crate::lists::code_in;
-use jd_base::{ClassId, FieldId, MethodId, NoMemory, Sort, both, copy_bytes};
+use crate::names::this_id;
+use jd_base::{ClassId, FieldId, MethodId, NoMemory, both};
 use jd_syntax::{BinaryOp, CodeExpr, CodeStmt, Kind, UnaryOp, VarId};
 use std::alloc::Global;
 
@@ -56,11 +57,7 @@ pub fn variable(v: Result<VarId, NoMemory>) -> Result<CodeExpr, NoMemory>
 pub fn this(alloc: Global) -> Result<CodeExpr, NoMemory>
     ensures { GivesExpr result (plain.Variable variables.this_name) }
 {
-    let name = copy_bytes(alloc, b"this")?;
-    Ok(CodeExpr::Variable(VarId {
-        name,
-        sort: Sort::Ref,
-    }))
+    Ok(CodeExpr::Variable(this_id(alloc)?))
 }
 
 /// An operation on one value: `(neg a)` and the like.

@@ -14,8 +14,8 @@ pub use exprs::{
     virtual_call,
 };
 pub use lists::{
-    appended_stmts, no_exprs, no_stmts, no_variables, one_stmt, two_stmts, with_expr, with_stmt,
-    with_variable,
+    appended_stmts, code_in, no_exprs, no_stmts, no_variables, one_stmt, two_stmts, with_expr,
+    with_stmt, with_variable,
 };
 pub use names::copied;
 pub use progress::Progress;

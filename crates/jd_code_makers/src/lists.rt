@@ -104,7 +104,7 @@ fn code_made(stmts: Vec<CodeStmt>) -> Code
 }
 
 /// The code of statements, if they have been made.
-pub(crate) fn code_in(stmts: Result<Vec<CodeStmt>, NoMemory>) -> Result<Code, NoMemory>
+pub fn code_in(stmts: Result<Vec<CodeStmt>, NoMemory>) -> Result<Code, NoMemory>
     ensures { (xs : List Stmt) → GivesStmts stmts xs → GivesCode result (stmts_of xs) }
 {
     Ok(code_made(stmts?))

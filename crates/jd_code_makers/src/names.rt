@@ -108,6 +108,17 @@ pub(crate) fn temporary_id(alloc: Global, number: u64, t: ValueType) -> Result<V
     })
 }
 
+/// `this`
+pub(crate) fn this_id(alloc: Global) -> Result<VarId, NoMemory>
+    ensures { GivesName result plain.this_name }
+{
+    let name = copy_bytes(alloc, b"this")?;
+    Ok(VarId {
+        name,
+        sort: Sort::Ref,
+    })
+}
+
 /// The number that a parameter or local of a name is shown with, where so many have it.
 pub(crate) fn shown(name: &[u8], count: u64) -> Result<u64, NoMemory>
     ensures { IfOk result (λ n. n ≡ count + cond (bytes_eq name.now (codes "created")) 1 0) }

@@ -1,16 +1,16 @@
 //! What a body's code has by now.
 
-ghost use Rattle.std.specs.Prelude.{◌≡◌, ◌+◌, [], IfOk, List, OnOk};
+ghost use Rattle.std.specs.Prelude.{◌≡◌, ◌+◌, [], IfOk, List, map, OnOk};
 ghost use Rattle.jd_bodies.specs.Variables as plain;
-ghost use Rattle.jd_code_makers.specs.Held.{Holds, IsProgress, Works, number_at, parts};
+ghost use Rattle.jd_code_makers.specs.Held.{Holds, IsProgress, Works, names_of, number_at, parts, with_receiver};
 ghost use Rattle.jd_code_makers.specs.Makers.{GivesName, GivesNames, GivesNumber};
-ghost use Rattle.jd_syntax.specs.Names.{Name, var_view};
+ghost use Rattle.jd_syntax.specs.Names.{Name, decl_view, var_view};
 
-use crate::names::{declare, following, local_id, next, set_number, shown, temporary_id};
+use crate::names::{declare, following, local_id, next, set_number, shown, temporary_id, this_id};
 use indexmap::IndexMap;
 use jd_base::NoMemory;
 use jd_bodies::ValueType;
-use jd_lists::put;
+use jd_lists::{discard, put};
 use jd_syntax::{VarDecl, VarId};
 use std::alloc::Global;
 
@@ -192,6 +192,63 @@ impl Progress {
         let made = self.add_loop(scope);
         self.has_failed = made.is_err();
         made
+    }
+
+    /// How many labels there are.
+    ///
+    /// # Errors
+    ///
+    /// `NoMemory` where memory ran out before.
+    pub fn labels(&self) -> Result<u32, NoMemory>
+        ensures { (q : plain.Progress) → Holds self.now q → GivesNumber result q.labels }
+    {
+        if self.has_failed {
+            return Err(NoMemory);
+        }
+        Ok(self.labels)
+    }
+
+    // `this`, if memory suffices.
+    fn add_receiver(&mut self, alloc: Global, class: u32) -> Result<(), NoMemory>
+        ensures progress { OnOk result ((q : plain.Progress) → Holds self.old q → IsProgress (parts self.new) (with_receiver class q)) }
+        ensures works { OnOk result (Works self.old) }
+    {
+        if self.has_failed {
+            return Err(NoMemory);
+        }
+        declare(&mut self.variables, this_id(alloc), ValueType::Class(class))
+    }
+
+    /// `this`, an object of the class.
+    pub fn receive(&mut self, alloc: Global, class: u32)
+        ensures progress { (q : plain.Progress) → Holds self.old q → Holds self.new (with_receiver class q) }
+        ensures works { Works self.new → Works self.old }
+    {
+        let made = self.add_receiver(alloc, class);
+        self.has_failed = made.is_err();
+    }
+
+    /// All variables in the order of their making, and of each loop the parameters and locals where it begins.
+    ///
+    /// # Errors
+    ///
+    /// `NoMemory` where memory ran out before.
+    pub fn finished(self) -> Result<(Vec<VarDecl>, Vec<Vec<VarId>>), NoMemory>
+        ensures variables { (q : plain.Progress) → Holds self q → IfOk result (λ v. map decl_view v.0.items ≡ q.variables) }
+        ensures scopes { (q : plain.Progress) → Holds self q → IfOk result (λ v. map names_of v.1.items ≡ q.scopes) }
+    {
+        if self.has_failed {
+            discard(self);
+            return Err(NoMemory);
+        }
+        let Progress {
+            names,
+            variables,
+            scopes,
+            ..
+        } = self;
+        discard(names);
+        Ok((variables, scopes))
     }
 
     /// Whether memory ran out.

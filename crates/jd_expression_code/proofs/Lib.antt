@@ -1,4 +1,4 @@
 mod Lists
 mod Splitting
 mod Told
-mod Views
+pub mod Views

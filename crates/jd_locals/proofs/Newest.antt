@@ -1,10 +1,11 @@
 -- Locals in the order in which they were entered, and from the newest on.
-use Rattle.std.proofs.Common.{◌≡◌, ℕ, ◌-◌, Bool, true, false, cond, if◌then◌else◌, List, [], ◌∷◌, ◌++◌, length, map, take, drop, reverse, Option, Some, None, refl, sym, ap, ◌∙◌, arith, bytes_eq}
+use Rattle.std.proofs.Common.{◌≡◌, ℕ, ◌-◌, Bool, true, false, cond, if◌then◌else◌, List, [], ◌∷◌, ◌++◌, length, map, take, drop, reverse, slice_get, option_map, Option, Some, None, refl, sym, ap, ◌∙◌, arith, bytes_eq}
 use Rattle.std.specs.Global.{Vec}
 use Rattle.std.specs.List.{AllByRecursion, IsDistinct}
 use Rattle.std.specs.Map.{keys_of, lookup}
 use Rattle.std.proofs.lemmas.Cmp.{nat_list_eq_equiv}
-use Rattle.std.proofs.lemmas.List.{length-drop, length-map, length-reverse, map-append, reverse-append, take-append-drop, take-map}
+use Rattle.std.proofs.lemmas.List.{length-drop, length-map, length-reverse, map-append, reverse-append, reverse-reverse, take-append-drop, take-map}
+use Rattle.std.proofs.lemmas.Option.{slice_get-map}
 use Rattle.std.proofs.lemmas.Map.Keys.{IsDistinct-head, IsDistinct-tail}
 use Rattle.std.proofs.lemmas.Slice.Eq.{bytes_eq-Decides}
 use Rattle.std.proofs.Math.Seq.{drop-append_seam}
@@ -101,3 +102,11 @@ found name es r apart is = is ∙ sym (looked_up name es apart)
 -- and a new name has none
 pub is_new : (name : List ℕ) (key : Vec ℕ) (es : List Entry) → IsDistinct same_name (keys_of es) → key.items ≡ name → local_named (newest_first es) name ≡ None → lookup (same_name key) es ≡ None
 is_new name key es apart same none = ap (λ n. lookup (λ (y : Vec ℕ). bytes_eq n y.items) es) same ∙ sym (looked_up name es apart) ∙ none
+
+-- ---- one by one, the oldest first
+
+pub listed : (es : List Entry) (i : ℕ) (o : Option Entry) → o ≡ slice_get es i → option_map local_of o ≡ slice_get (reverse (newest_first es)) i
+listed es i o is =
+    ap (option_map local_of) is
+    ∙ sym (slice_get-map local_of es i)
+    ∙ ap (λ (l : List Local). slice_get l i) (sym (reverse-reverse (map local_of es)))

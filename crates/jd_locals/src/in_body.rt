@@ -2,6 +2,7 @@ ghost use Rattle.std.specs.Prelude.{◌≡◌};
 ghost use Rattle.jd_bodies.specs.Scopes.{empty_scope};
 ghost use Rattle.jd_locals.specs.Scoped.{scope_of};
 
+use crate::listed::{ListsLocals, LocalInScope};
 use indexmap::IndexMap;
 use jd_base::{NoMemory, copy_bytes};
 use jd_bodies::ValueType;
@@ -96,5 +97,17 @@ impl InScope for InBody {
         self.locals.truncate(mark.locals);
         self.labels.truncate(mark.labels);
         self.in_loop = mark.in_loop;
+    }
+}
+
+impl ListsLocals for InBody {
+    fn local_at(&self, index: usize) -> Option<LocalInScope<'_>> {
+        match self.locals.get_index(index) {
+            None => None,
+            Some((name, value)) => Some(LocalInScope {
+                name,
+                value: *value,
+            }),
+        }
     }
 }

@@ -2,5 +2,7 @@
 #![tactic(auto)]
 
 mod in_body;
+mod listed;
 
 pub use in_body::InBody;
+pub use listed::{ListsLocals, LocalInScope};

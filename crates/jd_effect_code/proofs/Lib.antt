@@ -1,0 +1,3 @@
+mod Apart
+mod Changes
+mod Told

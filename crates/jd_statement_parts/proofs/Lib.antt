@@ -1,0 +1,4 @@
+pub mod Standing
+pub mod Sequences
+mod Chaining
+mod Naming

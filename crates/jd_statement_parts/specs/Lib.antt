@@ -1,0 +1,4 @@
+pub mod Catching
+pub mod Leaving
+pub mod Standing
+pub mod Turning
