@@ -9,3 +9,6 @@ refused-requires c = names_one (map (λ f. f.items) c.args.files.now) c.in-Err.r
 
 pub returns-in_ok-refused-in-Err : goal.returns-in_ok-refused-in-Err
 returns-in_ok-refused-in-Err c = refusal (word_texts c.args.names.now) (map (λ f. f.items) c.args.files.now) c.in-Err.refusal _ _ c.in-Err.ensures.refused c.in_ok-refused-in-Err.ensures
+
+pub resolved-requires : goal.resolved-requires
+resolved-requires c = (map (λ f. f.items) c.args.files.now, c.in-Ok.ensures.tables, length-map c.args.files.now (λ f. f.items) ∙ sym c.requires.each)
