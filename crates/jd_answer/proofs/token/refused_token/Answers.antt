@@ -3,5 +3,4 @@ use Rattle.jd_answer.proofs.token.refused_token.Goals as goal
 
 pub token_answer-requires : goal.token_answer-requires
 token_answer-requires c =
-    let units = c.requires.0 in
-    subst (λ n. c.in-Some.refused.file < n) c.requires.1.1 (c.one_refusal.ensures.in_files units _ (rw c.in-Some.is at c.in_ok-refused.ensures units c.requires.1.0))
+    subst (λ n. c.in-Some.refused.file < n) c.requires.2 (c.one_refusal.ensures.in_files c.requires.0 _ (rw c.in-Some.is at (c.in_ok-first_refused.ensures c.requires.0 c.requires.1)))
