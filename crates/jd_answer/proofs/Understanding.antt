@@ -10,7 +10,6 @@ use Rattle.jd_first_java.specs.declared.syntax.Program as code
 use Rattle.jd_first_java.specs.Reads.{Answers, program_view}
 use Rattle.jd_first_java.specs.Programs.{Program}
 use Rattle.jd_first_java.specs.Reads as java
-use Rattle.jd_syntax.specs.JavaTrees.{JavaUnit}
 use Rattle.jd_answer.specs.FileAnswers.{IsRefusal, of_form, of_token}
 use Rattle.jd_answer.specs.Reports.{unbuilt_text}
 use Rattle.jd_answer.specs.Refusing.{TellsToken}
