@@ -1,26 +1,25 @@
 -- The row of a case stands for it.
-use Rattle.std.proofs.Common.{◌≡◌, ◌↔◌, ℕ, zero, suc, Bool, true, false, cond, List, [], ◌∷◌, ◌++◌, map, Option, Some, None, refl, sym, ap, subst, ◌∙◌, true≢false}
-use Rattle.jd_syntax.specs.Codes.{OfClass}
+use Rattle.std.proofs.Common.{◌≡◌, ◌↔◌, ℕ, zero, suc, Bool, true, false, List, [], ◌∷◌, ◌++◌, map, Option, Some, None, refl, sym, ap, subst, ◌∙◌, true≢false}
 use Rattle.jd_syntax.specs.CodeNames.{heap_name}
 use Rattle.jd_syntax.specs.Names.{Name}
 use Rattle.jd_term.specs.Terms.{PlainTerm, ProgramVariable, Constant}
 use Rattle.jd_term.specs.Formulas.{PlainFormula, WellFormed}
-use Rattle.jd_heap.specs.References.{Reference, Field, Location, location}
-use Rattle.jd_heap.specs.Heaps.{Heap, is_created}
-use Rattle.jd_heap.specs.Values.{Value, RefValue, HeapValue, as_int, as_ref, as_heap, at_sort}
+use Rattle.jd_heap.specs.References.{Reference, Location}
+use Rattle.jd_heap.specs.Heaps.{Heap}
+use Rattle.jd_heap.specs.Values.{Value, RefValue, HeapValue, as_ref, as_heap, at_sort}
 use Rattle.jd_model.specs.SpecialNames.{entry_heap, receiver, thrown_variable, result_variable}
 use Rattle.jd_model.specs.States.{State, read, heap_of}
-use Rattle.jd_model.specs.Programs.{Program, Body, type_sort, is_instance, is_exactly}
+use Rattle.jd_model.specs.Programs.{Program, Body, type_sort}
 use Rattle.jd_model.specs.TermValues.{value, within}
 use Rattle.jd_model.specs.Truth.{Setting, InvTruth}
 use Rattle.jd_model.specs.Validity.{AllTrue}
 use Rattle.jd_model.specs.Renamings.{AllFirstOrder}
 use Rattle.jd_model.specs.Cases.{DeclaredType, Parameter, Role, Static, Ordinary, Helper, ConstructorOf, Behaviour, AnyEnd, NormalOnly, ExceptionalOnly, Contract}
-use Rattle.jd_model.specs.EntryExit.{Moment, AreOf, EntryAs, RoleFields, NormalEnd, ExceptionalEnd, ResultOf, MayEnd, entry_moment, normal_moment, thrown_moment, interpretation_of, state_of, assignable_at, measure_at}
+use Rattle.jd_model.specs.EntryExit.{Moment, AreOf, EntryAs, RoleFields, ResultOf, MayEnd, entry_moment, normal_moment, thrown_moment, interpretation_of, state_of, assignable_at, measure_at}
 use Rattle.jd_model.specs.Tables.{CaseStandsFor, SortsOf, loosened, members, constants_of_parameters, parameter_constant, receiver_in, result_in}
 use Rattle.jd_model.proofs.Writes.{read_back}
 use Rattle.jd_jml_meaning.specs.Resolved.{JmlExpr}
-use Rattle.jd_jml_meaning.specs.Meaning.{When, Now, Before, World, meant, AmongAll}
+use Rattle.jd_jml_meaning.specs.Meaning.{When, Now, Before, World}
 use Rattle.jd_jml_meaning.specs.Translation.{Spelling, formula}
 use Rattle.jd_jml_meaning.specs.Standing.{Stands}
 use Rattle.jd_jml_meaning.specs.InvariantFormulas.{setting_of}
@@ -34,7 +33,7 @@ use Rattle.jd_jml_meaning.proofs.InvariantsHold.{invariants_mean}
 use Rattle.jd_jml_meaning.proofs.ContractWorlds.{contract_stands, result_sort}
 use Rattle.jd_jml_meaning.proofs.ContractsMean.{contract_means}
 use Rattle.jd_case_rows.specs.Laws.{AreFieldLists, AreTyped, FitsBody}
-use Rattle.jd_case_rows.specs.Rows.{row_of, respelled, spelled_for, typed_members, receiver_members, invariant_members, field_members, parameter_members, entry_members, result_members, established_members, unless_normal, normal_members, signalled_members, only_member, unless_exceptional, exceptional_members, instance_of_thrown}
+use Rattle.jd_case_rows.specs.Rows.{row_of, respelled, spelled_for, receiver_members, invariant_members, field_members, parameter_members, entry_members, result_members, established_members, unless_normal, normal_members, signalled_members, only_member, unless_exceptional, exceptional_members}
 use Rattle.jd_case_rows.specs.Speaking.{Allowed, AllSpeak, SignalsSpeak, ContractSpeaks, has_receiver, at_entry, of_result, of_thrown}
 use Rattle.jd_case_rows.proofs.Alike.{Agree, meant_alike, holds_alike, all_alike}
 use Rattle.jd_case_rows.proofs.Typed.{joined_iff, alone, typed_iff, created_iff, parameters_iff, receiver_iff, fields_iff, thrown_iff, only_iff}

@@ -1,8 +1,8 @@
 -- Of a row's members only the receiver's class is loosened at a call, and none has an update or a modality.
-use Rattle.std.proofs.Common.{◌≡◌, ℕ, Bool, true, false, cond, List, [], ◌∷◌, ◌++◌, map, refl, ap, ap₂, subst, sym, ◌∙◌, Option, Some, None}
+use Rattle.std.proofs.Common.{◌≡◌, ℕ, Bool, true, false, List, [], ◌∷◌, ◌++◌, map, refl, ap, ap₂, ◌∙◌, Option, Some, None}
 use Rattle.std.proofs.lemmas.List.{map-append}
 use Rattle.jd_term.specs.Terms.{PlainTerm, Constant}
-use Rattle.jd_term.specs.Formulas.{PlainFormula, WellFormed}
+use Rattle.jd_term.specs.Formulas.{PlainFormula}
 use Rattle.jd_term.specs.Renamings.{FirstOrder}
 use Rattle.jd_model.specs.SpecialNames.{entry_heap}
 use Rattle.jd_model.specs.Programs.{Program, ValueType, IntType, BooleanType, ReferenceType}
@@ -13,7 +13,7 @@ use Rattle.jd_jml_meaning.specs.Resolved.{JmlExpr, BooleanLiteral, Cast, Old}
 use Rattle.jd_jml_meaning.specs.Meaning.{When, Before}
 use Rattle.jd_jml_meaning.specs.Translation.{Spelling, formula}
 use Rattle.jd_jml_meaning.proofs.Scopes.{first_order}
-use Rattle.jd_case_rows.specs.Rows.{or_null, value_members, typed_members, receiver_members, invariant_members, field_member, field_members, parameter_members, result_members, established_members, unless_normal, unless_exceptional, signalled_members, one_of, only_member}
+use Rattle.jd_case_rows.specs.Rows.{value_members, typed_members, receiver_members, invariant_members, field_member, field_members, parameter_members, result_members, established_members, unless_normal, unless_exceptional, signalled_members, one_of, only_member}
 
 abbrev Tight : List PlainFormula → Type 0
 Tight l = map loosened l ≡ l

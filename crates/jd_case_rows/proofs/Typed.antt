@@ -1,27 +1,26 @@
 -- What the members on values of declared types, receivers and fields say.
-use Rattle.std.proofs.Common.{◌≡◌, ◌↔◌, ◌⊎◌, inl, inr, ℕ, Bool, true, false, cond, List, [], ◌∷◌, ◌++◌, map, refl, sym, ap, subst, ◌∙◌, true≢false, ◌||◌}
-use Rattle.jd_base.specs.declared.sort.Sort.{Sort}
+use Rattle.std.proofs.Common.{◌≡◌, ◌↔◌, inl, inr, ℕ, Bool, true, false, cond, List, [], ◌∷◌, ◌++◌, map, refl, sym, ap, subst, ◌∙◌, true≢false, ◌||◌}
 use Rattle.jd_syntax.specs.Codes.{PlainKind, OfClass}
 use Rattle.jd_syntax.specs.Names.{Name}
 use Rattle.jd_term.specs.Terms.{PlainTerm, ProgramVariable, Constant}
 use Rattle.jd_term.specs.Formulas.{PlainFormula, And, IsInstance, IsExactInstance}
 use Rattle.jd_heap.specs.References.{Reference, Null, Object, Array, Named, is_null}
 use Rattle.jd_heap.specs.Heaps.{Heap, is_created}
-use Rattle.jd_heap.specs.Values.{Value, IntValue, BoolValue, RefValue, as_int, as_bool, as_ref, as_heap, at_sort, default, select_at}
+use Rattle.jd_heap.specs.Values.{Value, RefValue, as_int, as_ref, as_heap, at_sort, default, select_at}
 use Rattle.jd_model.specs.Conjunctions.{created_at}
 use Rattle.jd_model.specs.SpecialNames.{entry_heap, receiver, thrown_variable}
 use Rattle.jd_model.specs.States.{State, read}
-use Rattle.jd_model.specs.Programs.{Program, ValueType, IntType, BooleanType, ReferenceType, type_sort, field_sort, is_instance, is_exactly}
+use Rattle.jd_model.specs.Programs.{ValueType, IntType, BooleanType, ReferenceType, type_sort, field_sort, is_instance, is_exactly}
 use Rattle.jd_model.specs.TermValues.{value}
 use Rattle.jd_model.specs.WellFormedHeaps.{in_int}
 use Rattle.jd_model.specs.Truth.{Setting, Truth, EitherOf}
 use Rattle.jd_model.specs.Validity.{AllTrue}
 use Rattle.jd_model.specs.Cases.{DeclaredType, Parameter, Role, Static, Ordinary, Helper, ConstructorOf}
 use Rattle.jd_model.specs.EntryExit.{AreOf, Receiver, RoleFields, is_of, is_one_of, AllOneOf}
-use Rattle.jd_model.specs.Tables.{SortsOf, loosened, members, parameter_constant, constants_of_parameters, receiver_in}
+use Rattle.jd_model.specs.Tables.{SortsOf, members, parameter_constant, constants_of_parameters, receiver_in}
 use Rattle.jd_model.proofs.Writes.{read_back}
-use Rattle.jd_jml_meaning.proofs.Spelled.{iff_same, and_iff, imp_iff, either_iff, iff_then, bit_iff}
-use Rattle.jd_jml_meaning.proofs.Located.{either_true, alone_true}
+use Rattle.jd_jml_meaning.proofs.Spelled.{iff_same, and_iff, either_iff, iff_then, bit_iff}
+use Rattle.jd_jml_meaning.proofs.Located.{either_true}
 use Rattle.jd_case_rows.specs.Laws.{Listed}
 use Rattle.jd_case_rows.specs.Rows.{or_null, value_members, typed_members, receiver_members, default_term, field_member, field_members, parameter_members, respelled, instance_of_thrown, one_of, only_member}
 

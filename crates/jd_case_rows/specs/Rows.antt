@@ -1,6 +1,6 @@
 -- The row of a case: what it asks at the entry and at each end, member by member, in the names of the body that runs (The KeY Book,
 -- 8.2; JML Reference Manual, 8.2 and 9).
-use Rattle.std.specs.Prelude.{ℕ, Bool, true, false, cond, Option, Some, None, List, [], ◌∷◌, ◌++◌, map}
+use Rattle.std.specs.Prelude.{ℕ, Bool, false, cond, Option, Some, None, List, [], ◌∷◌, ◌++◌, map}
 use Rattle.jd_base.specs.declared.sort.Sort.{Sort}
 use Rattle.jd_base.specs.declared.sort.Sort.TheVariants.{Int as IntSort, Bool as BoolSort, Ref as RefSort, Heap as HeapSort, Field as FieldSort}
 use Rattle.std.specs.Prelude.{pos}

@@ -9,7 +9,7 @@ use Rattle.jd_jclasses.specs.Members.{Declared, FieldOf, ConstantOf, RoutineOf, 
 use Rattle.jd_jclasses.specs.Methods.{routines}
 use Rattle.jd_bodies.specs.Declarations.{Declarations}
 use Rattle.jd_specifications.specs.declared.fault.SpecFault.{SpecFault}
-use Rattle.jd_specifications.specs.Refused.{fault_from, fault_or, first_fault, invariants, member, members, method}
+use Rattle.jd_specifications.specs.Refused.{fault_from, fault_or, first_fault, member, members, method}
 use Rattle.jd_specifications.specs.Scopes.{SpecLocal}
 use Rattle.jd_declared.proofs.Lists.{In, at_place, in_either, in_filter, in_map}
 use Rattle.jd_spoken.proofs.Expressions.{through}

@@ -1,6 +1,6 @@
 -- The names of a body's parameters, and their constants.
-use Rattle.std.proofs.Common.{◌≡◌, ℕ, Bool, true, false, cond, ◌==◌, if◌then◌else◌, nat_eq, List, [], ◌∷◌, ◌++◌, map, drop, codes, refl, sym, ap, ap₂, subst, ◌∙◌}
-use Rattle.std.proofs.lemmas.List.{map-append, append-assoc}
+use Rattle.std.proofs.Common.{◌≡◌, ℕ, Bool, true, false, cond, ◌==◌, if◌then◌else◌, nat_eq, List, [], ◌∷◌, ◌++◌, map, drop, codes, get_or, arith, refl, sym, ap, ap₂, subst, ◌∙◌}
+use Rattle.std.proofs.lemmas.List.{append-nil, append_assoc}
 use Rattle.jd_base.specs.declared.sort.Sort.{Sort}
 use Rattle.jd_base.specs.declared.sort.Sort.TheVariants.{Int as IntSort, Bool as BoolSort, Ref as RefSort, Heap as HeapSort, Field as FieldSort}
 use Rattle.jd_syntax.specs.JavaTypes.{PlainType}
@@ -33,11 +33,7 @@ module _ (d : Declarations) where
 
   all_added : (ps : List JavaParameter) (p : Progress) → (with_parameters d ps p).variables ≡ p.variables ++ added p.names ps
   all_added [] p = sym (append-nil p.variables)
-    where
-      append-nil : (l : List Declared) → l ++ [] ≡ l
-      append-nil [] = refl
-      append-nil (x ∷ l) = ap (λ r. x ∷ r) (append-nil l)
-  all_added (x ∷ xs) p = all_added xs (with_local x.name.name (typed x) p) ∙ append-assoc p.variables _ (added (x.name.name ∷ p.names) xs)
+  all_added (x ∷ xs) p = all_added xs (with_local x.name.name (typed x) p) ∙ append_assoc p.variables _ (added (x.name.name ∷ p.names) xs)
 
   abbrev names : List (List ℕ) → List JavaParameter → List Name
   names ns ps = map variable_name (added ns ps)
@@ -83,11 +79,11 @@ module _ (d : Declarations) where
 
   before_mark : (x r : List ℕ) → source_name (x ++ (39 ∷ r)) ≡ source_name x
   before_mark [] r = refl
-  before_mark (b ∷ bs) r = by (b == 39)
+  before_mark (b ∷ bs) r = by (b == 39) (before_mark bs r)
     where
-      by : (t : Bool) → (if t then [] else (b ∷ source_name (bs ++ (39 ∷ r)))) ≡ (if t then [] else (b ∷ source_name bs))
-      by true = refl
-      by false = ap (λ l. b ∷ l) (before_mark bs r)
+      by : (t : Bool) → source_name (bs ++ (39 ∷ r)) ≡ source_name bs → (if t then [] else (b ∷ source_name (bs ++ (39 ∷ r)))) ≡ (if t then [] else (b ∷ source_name bs))
+      by true same = refl
+      by false same = ap (λ l. b ∷ l) same
 
   local_source : (x : List ℕ) (n : ℕ) → source_name (local_text x n) ≡ source_name x
   local_source x n = by (nat_eq n 1)
@@ -108,7 +104,7 @@ module _ (d : Declarations) where
 
   -- none is that of the measure
   no_measure : (x : List ℕ) (s : Sort) → entry_measure ≡ constant_for x s → ⊥
-  no_measure x IntSort e = let texts = ap (λ (n : Name). n.text) e in absurd cc
+  no_measure x IntSort e = let third : 109 ≡ 95 = ap (λ (n : Name). get_or n.text 2 0) e in absurd (omega (arith, third))
   no_measure x BoolSort e = let sorts = ap (λ (n : Name). n.sort) e in absurd cc
   no_measure x RefSort e = let sorts = ap (λ (n : Name). n.sort) e in absurd cc
   no_measure x HeapSort e = let sorts = ap (λ (n : Name). n.sort) e in absurd cc

@@ -1,19 +1,21 @@
 -- Tables of rows that are made of a program's cases stand for it.
-use Rattle.std.proofs.Common.{◌≡◌, ◌⊎◌, inl, inr, ⊎_elim, ℕ, Bool, true, false, cond, List, [], ◌∷◌, map, flat_map, Option, Some, None, option_map, Ok, refl, sym, ap, subst, ◌∙◌}
+use Rattle.std.proofs.Common.{◌≡◌, inl, inr, ℕ, Bool, true, false, cond, List, [], ◌∷◌, map, flat_map, Option, Some, None, option_map, refl, sym, ap, subst, ◌∙◌}
 use Rattle.std.specs.List.{slice_get}
 use Rattle.std.specs.Option.{option_and_then}
 use Rattle.std.proofs.lemmas.Option.{same_Some, none-some}
 use Rattle.jd_syntax.specs.JavaTrees.{JavaMethod, JavaUnit}
 use Rattle.jd_jclasses.specs.Classes.{IsAncestor, IsSubclass}
 use Rattle.jd_jclasses.specs.Laws.{OneMethod}
-use Rattle.jd_jclasses.specs.Members.{Declared, Kind, FieldOf, ConstantOf, RoutineOf, is_method, parameter_types}
+use Rattle.jd_jclasses.specs.Members.{Declared, Kind, FieldOf, ConstantOf, RoutineOf, parameter_types}
 use Rattle.jd_jclasses.specs.Methods.{IsSeen, routines}
 use Rattle.jd_jclasses.specs.Refusals.{AreClasses}
 use Rattle.jd_jseen.proofs.Routines.{routines_are_members}
-use Rattle.jd_model.specs.Cases.{Case, Parameter}
 use Rattle.jd_model.specs.ContractForms.{PlainCase, PlainContracts}
 use Rattle.jd_model.specs.Programs.{Body}
-use Rattle.jd_model.specs.Tables.{CaseAt, SortsOf, TablesStandFor}
+use Rattle.jd_model.specs.EntryExit.{constants_of}
+use Rattle.jd_model.specs.Occurrences.{AllApart}
+use Rattle.jd_model.specs.SpecialNames.{entry_heap, entry_measure, receiver}
+use Rattle.jd_model.specs.Tables.{CaseAt, CaseStandsFor, SortsOf, TablesStandFor, constants_of_parameters}
 use Rattle.jd_bodies.specs.Declarations.{Declarations}
 use Rattle.jd_bodies.specs.Refused as bodies
 use Rattle.jd_specifications.specs.Refused as jml
@@ -127,8 +129,8 @@ module _ (methods : OneMethod) (units : List JavaUnit) (are : AreClasses units) 
   by_static c m name x s true h = at_itself m s.declared.routine x s.declared.there h
   by_static c m name x s false h = above c m name x s h
 
-  runs : (k : Comes units lineage d is.family _) → Runs k.m k.x
-  runs k = by k.origin
+  runs : (c : JmlCase) (k : Comes units lineage d is.family c) → Runs k.m k.x
+  runs c k = by k.origin
     where
       by : Origin units lineage d is.family k.c k.m k.x → Runs k.m k.x
       by (of_constructor run has) =
@@ -161,7 +163,7 @@ module _ (methods : OneMethod) (units : List JavaUnit) (are : AreClasses units) 
     parameters_of : (x : JmlContract) (w : Written x) → x.parameters ≡ map (parameter d) w.tree.parameters
     parameters_of x w = let c = in_map (contract d w.it.class w.tree) (cases_of w.tree.specs) x w.has in ap (λ (y : JmlContract). y.parameters) (sym c.2)
 
-    own_apart : (m : ℕ) (r : Declared) (t : JavaMethod) → slice_get (routines units) m ≡ Some r → r.kind ≡ RoutineOf t → _
+    own_apart : (m : ℕ) (r : Declared) (t : JavaMethod) → slice_get (routines units) m ≡ Some r → r.kind ≡ RoutineOf t → AllApart (entry_heap ∷ receiver ∷ constants_of (map (parameter d) t.parameters))
     own_apart m r t there kind =
         let a = accepted_bodies.accepted d units none m r t there kind in
         constants_apart.of_method d r.class t a.0 (named m r t there kind) a.1
@@ -175,7 +177,7 @@ module _ (methods : OneMethod) (units : List JavaUnit) (are : AreClasses units) 
         record {
           typed = subst AreTyped (sym ps) (parameters_typed d w.tree.parameters);
           sorts = subst (λ (y : Body). SortsOf y.parameters c.contract.parameters) (sym its.2) (subst (SortsOf (body_with d r.it.class its.0).parameters) (sym ps) (parameters_sorted d r.it.class its.0 w.tree.parameters types));
-          apart = subst (λ (y : Body). _) (sym its.2) (parameters_apart d r.it.class its.0 (own_apart m r.it its.0 r.there its.1));
+          apart = subst (λ (y : Body). AllApart (entry_measure ∷ entry_heap ∷ receiver ∷ constants_of_parameters y.parameters)) (sym its.2) (parameters_apart d r.it.class its.0 (own_apart m r.it its.0 r.there its.1));
         }
 
     module _ (rows : RowsStand) (fields : ℕ → List ℕ) (listed : AreFieldLists j.program fields) where
@@ -186,10 +188,10 @@ module _ (methods : OneMethod) (units : List JavaUnit) (are : AreClasses units) 
       case_stands κ (Some f) (Some c) e row =
           let b = row.0 in
           let from = comes units lineage d is.family c (in_cases κ c e) in
-          let r = runs from in
+          let r = runs c from in
           let body : j.program.body from.m ≡ Some b = ap j.program.body (sym from.is.body) ∙ row.1 in
           let spoken : ContractSpeaks c.contract = subst ContractSpeaks (sym from.is.contract) (speaks from.x r.written) in
-          (b, row.1, subst (λ (q : PlainCase). _) (sym row.2) (rows j fields listed c b (own_constants units j is named none c (in_cases κ c e)) spoken (fits c b from.m from.x from.is.contract r body)))
+          (b, row.1, subst (λ (q : PlainCase). CaseStandsFor (specified j) (case_of j.program c) b q) (sym row.2) (rows j fields listed c b (own_constants units j is named none c (in_cases κ c e)) spoken (fits c b from.m from.x from.is.contract r body)))
 
       pub stand : (t : PlainContracts) → AreMadeOf j fields t → TablesStandFor t (specified j)
       stand t made = record {

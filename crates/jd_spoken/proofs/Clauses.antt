@@ -1,24 +1,22 @@
 -- The clauses of a method of which no token is refused speak of what they may.
-use Rattle.std.proofs.Common.{◌≡◌, ℕ, suc, Bool, true, false, cond, not, List, [], ◌∷◌, ◌++◌, map, flat_map, Option, Some, None, Result, Ok, refl, sym, ap, ◌∙◌, true≢false}
+use Rattle.std.proofs.Common.{◌≡◌, ℕ, suc, Bool, true, false, cond, not, List, [], ◌∷◌, ◌++◌, map, Option, Some, None, Result, Ok, refl, sym, ap, ◌∙◌, true≢false}
 use Rattle.std.specs.Option.{unwrap_or}
 use Rattle.jd_syntax.specs.JavaTypes.{PlainIdentifier}
 use Rattle.jd_syntax.specs.SpecTrees.{PlainSpec, PlainLocation, Nothing, Everything, OwnField, FieldOf, AllFields, Element, Range, AllElements, PlainClause, Requires, Ensures, Signals, SignalsOnly, Assignable, MeasuredBy, Diverges, NormalBehavior, ExceptionalBehavior, Behavior, Also, PlainSpecBlock}
 use Rattle.jd_syntax.specs.JavaTrees.{JavaParameter, JavaMethod}
 use Rattle.jd_model.specs.Cases.{Role, Static, Ordinary, Helper, ConstructorOf}
 use Rattle.jd_bodies.specs.Declarations.{Declarations}
-use Rattle.jd_bodies.specs.declared.place.Place.{Place}
 use Rattle.jd_bodies.specs.declared.value.ValueType.{ValueType}
 use Rattle.jd_bodies.specs.declared.value.ValueType.TheVariants as types
 use Rattle.jd_bodies.specs.declared.value.Variable.{Variable}
 use Rattle.jd_bodies.specs.declared.value.Variable.TheVariants as variables
-use Rattle.jd_specifications.specs.Clauses.{Around, Sofar, at_first, before, behind, elsewhere, own_field, location_before, location as judged_location, locations as judged_locations, exception, caught, may_return, may_throw, clause, clauses}
+use Rattle.jd_specifications.specs.Clauses.{Around, Sofar, at_first, before, behind, elsewhere, own_field, location_before, location as judged_location, locations as judged_locations, exception, caught, clause, clauses}
 use Rattle.jd_specifications.specs.declared.fault.SpecFault.{SpecFault}
 use Rattle.jd_specifications.specs.Refused.{blocks, gives, method, parameters as judged_parameters, place_of}
-use Rattle.jd_specifications.specs.Resolution.{AnArgument, Entry, location, resolved, number_in, static_type, field_number}
-use Rattle.jd_specifications.specs.Scopes.{AParameter, SpecLocal, SpecPlace, and_then}
+use Rattle.jd_specifications.specs.Resolution.{Entry, location, resolved}
+use Rattle.jd_specifications.specs.Scopes.{SpecLocal, and_then}
 use Rattle.jd_specifications.specs.Types.{at_of, one, wanted, class_before, type_of}
 use Rattle.jd_specifications.specs.WrittenCases.{all_clauses, joined, more, cases_from, cases_of, class_of, builds, role, has_mark, is_pure, is_helper, entries, with_exception, requires_of, ensures_of, signals_of, with_locations, assignable_of, assignable_else, measure_of, contract, contracts, result_value}
-use Rattle.jd_jml_meaning.specs.Resolved as jml
 use Rattle.jd_jml_meaning.specs.Resolved.{JmlLocation}
 use Rattle.jd_case_rows.specs.Speaking.{Allowed, Speaks, AllSpeak, LocationSpeaks, LocationsSpeak, SignalsSpeak, ContractSpeaks, has_receiver, at_entry, of_result, of_thrown}
 use Rattle.jd_spoken.specs.Laws.{AllContractsSpeak}

@@ -1,7 +1,7 @@
 -- An expression of which no token is refused speaks of what it may.
-use Rattle.std.proofs.Common.{◌≡◌, ◌⊎◌, inl, inr, ℕ, suc, Bool, true, false, not, List, [], ◌∷◌, if◌then◌else◌, Option, Some, None, Result, Ok, Err, refl, sym, ap, ◌∙◌, subst, bytes_eq}
+use Rattle.std.proofs.Common.{◌≡◌, ◌⊎◌, inl, inr, ℕ, Bool, true, false, not, List, [], ◌∷◌, if◌then◌else◌, Option, Some, None, Result, Ok, Err, refl, sym, ap, ◌∙◌, subst, bytes_eq}
 use Rattle.jd_syntax.specs.JavaTypes.{PlainIdentifier}
-use Rattle.jd_syntax.specs.SpecTrees.{PlainSpecType, PlainSpec, Integer, Boolean, Null, This, Result as ResultWord, Name, Field, Parenthesized, Call, MethodCall, Index, Prefix, Cast, Infix, InstanceOf, Conditional, Implies, Equivalent, Old, Fresh, InvariantFor, Quantified, QuantifiedIn, Sum}
+use Rattle.jd_syntax.specs.SpecTrees.{PlainSpec, Integer, Boolean, Null, This, Result as ResultWord, Name, Field, Parenthesized, Call, MethodCall, Index, Prefix, Cast, Infix, InstanceOf, Conditional, Implies, Equivalent, Old, Fresh, InvariantFor, Quantified, QuantifiedIn, Sum}
 use Rattle.jd_syntax.specs.declared.java.InfixOperator.{InfixOperator}
 use Rattle.jd_syntax.specs.declared.java.InfixOperator.TheVariants as operators
 use Rattle.jd_syntax.specs.declared.spec.SpecPrefix.{SpecPrefix}
@@ -14,13 +14,12 @@ use Rattle.jd_bodies.specs.declared.value.ValueType.TheVariants as types
 use Rattle.jd_bodies.specs.declared.value.Variable.{Variable}
 use Rattle.jd_bodies.specs.declared.value.Variable.TheVariants as variables
 use Rattle.jd_bodies.specs.Expressions.{part_type, whole_type}
-use Rattle.jd_bodies.specs.Variables.{sort_of}
 use Rattle.jd_specifications.specs.declared.fault.SpecCause.{SpecCause}
 use Rattle.jd_specifications.specs.declared.fault.SpecFault.{SpecFault}
-use Rattle.jd_specifications.specs.Scopes.{Named, AParameter, ALocal, AnException, ABound, is_local, SpecLocal, local_named, SpecPlace, and_then, refused, only_if, class_unless, class_meant}
-use Rattle.jd_specifications.specs.Types.{own_variable, name_type, constant_type, result_type, wanted, reference, array, one, two, related, operation as judged_operation, choice_of, choice, cast, instance, element, of_reference, summed, member_type, field_type, sign_type, bound as bound_local, bound_type, written_type, class_before as class_judged, type_of, at_of}
+use Rattle.jd_specifications.specs.Scopes.{Named, AParameter, AnException, ABound, SpecLocal, local_named, SpecPlace, and_then, refused, only_if, class_unless}
+use Rattle.jd_specifications.specs.Types.{own_variable, name_type, constant_type, result_type, wanted, one, two, operation as judged_operation, choice, cast, instance, element, of_reference, summed, field_type, sign_type, bound as bound_local, bound_type, written_type, class_before as class_judged, type_of, at_of}
 use Rattle.jd_specifications.specs.Resolution as to
-use Rattle.jd_specifications.specs.Resolution.{Known, AnArgument, AVariable, TheException, ABinder, Entry, binders_then, found, looked_up, typed, own_member, named, operation, sign, quantified, quantified_in, over_type, bound_value, member, class_before, static_type, bound, field, resolved, is_boolean}
+use Rattle.jd_specifications.specs.Resolution.{Known, AnArgument, TheException, ABinder, Entry, binders_then, found, looked_up, typed, own_member, named, operation, sign, quantified, quantified_in, over_type, bound_value, member, class_before, static_type, bound, field, resolved, is_boolean}
 use Rattle.jd_jml_meaning.specs.Resolved as jml
 use Rattle.jd_jml_meaning.specs.Resolved.{JmlExpr, QuantifiedType}
 use Rattle.jd_case_rows.specs.Speaking.{Allowed, Speaks}

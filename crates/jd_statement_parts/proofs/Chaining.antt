@@ -1,5 +1,5 @@
 -- Handlers before others.
-use Rattle.std.proofs.Common.{◌≡◌, List, [], ◌∷◌, ◌++◌, map, refl, sym, ap, ◌∙◌}
+use Rattle.std.proofs.Common.{◌≡◌, List, [], ◌∷◌, ◌++◌, refl, ap}
 use Rattle.jd_syntax.specs.Codes as code
 use Rattle.jd_syntax.specs.Codes.{Stmt}
 use Rattle.jd_syntax.specs.Names.{Name}

@@ -8,7 +8,7 @@ use Rattle.jd_syntax.specs.declared.java.Declarator.{Declarator}
 use Rattle.jd_syntax.specs.declared.java.Expr.{Expr}
 use Rattle.jd_bodies.specs.declared.place.Place.{Place}
 use Rattle.jd_bodies.specs.declared.value.ValueType.{ValueType}
-use Rattle.jd_bodies.specs.Bodies.{Lines, Scoped, before, declaration, declared_lines, effect_lines, effects_lines, in_scope, initial_lines, start}
+use Rattle.jd_bodies.specs.Bodies.{Lines, Scoped, declaration, declared_lines, effect_lines, effects_lines, in_scope, initial_lines, start}
 use Rattle.jd_bodies.specs.Declarations.{Declarations, type_by}
 use Rattle.jd_bodies.specs.Scopes.{Local}
 use Rattle.jd_bodies.specs.Variables.{Progress, with_local}

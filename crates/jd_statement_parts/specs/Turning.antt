@@ -5,7 +5,7 @@ use Rattle.jd_base.specs.declared.memory.NoMemory.{NoMemory}
 use Rattle.jd_syntax.specs.Codes as code
 use Rattle.jd_syntax.specs.Codes.{Expr, Stmt, stmts_of}
 use Rattle.jd_syntax.specs.Names.{Name}
-use Rattle.jd_bodies.specs.Bodies.{Lines, block_if, label_if, scope_names}
+use Rattle.jd_bodies.specs.Bodies.{block_if, label_if, scope_names}
 use Rattle.jd_bodies.specs.Codes.{Made}
 use Rattle.jd_bodies.specs.Scopes.{Local}
 use Rattle.jd_bodies.specs.Variables.{Progress, local_name, with_loop}

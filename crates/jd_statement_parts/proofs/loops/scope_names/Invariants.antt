@@ -1,4 +1,4 @@
-use Rattle.std.proofs.Common.{◌≡◌, List, map, reverse, take}
+use Rattle.std.proofs.Common.{map, reverse, take}
 use Rattle.jd_bodies.specs.Scopes.{Local}
 use Rattle.jd_bodies.specs.Variables.{Progress, local_name}
 use Rattle.jd_code_makers.specs.Held.{Holds}

@@ -1,4 +1,4 @@
-use Rattle.std.proofs.Common.{map, sym, ◌∙◌}
+use Rattle.std.proofs.Common.{sym, ◌∙◌}
 use Rattle.jd_bodies.specs.Bodies.{initial_lines}
 use Rattle.jd_syntax.specs.JavaTrees.{declarator_view}
 use Rattle.jd_code_makers.specs.Makers.{GivesStmts}
