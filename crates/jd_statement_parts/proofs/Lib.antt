@@ -1,4 +1,5 @@
 pub mod Standing
 pub mod Sequences
 mod Chaining
+mod Exiting
 mod Naming

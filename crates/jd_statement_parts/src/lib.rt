@@ -10,7 +10,7 @@ mod parts;
 
 pub use catching::{Part, caught_by_parts, handler_part, no_parts, one_class, with_part};
 pub use declarations::{declared, effects, started};
-pub use exits::{Exits, break_exit, in_label, in_loop, no_exits};
+pub use exits::{Exits, break_exit, continue_exit, in_label, in_loop, no_exits};
 pub use labels::{block_if, label_if};
 pub use loops::{Head, Numbers, loop_head, looped};
 pub use parts::{
