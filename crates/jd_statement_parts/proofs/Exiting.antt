@@ -10,4 +10,6 @@ first_or false c n m = refl
 
 pub among_labels : (names : List (List ℕ)) (n : ℕ) (loops : List (List ℕ × ℕ)) (l : List ℕ) → exit_named (map (λ x. (x, n)) names ++ loops) l ≡ (if list_any (λ x. bytes_eq x l) names then n else exit_named loops l)
 among_labels [] n loops l = refl
-among_labels (x ∷ xs) n loops l = (let e = among_labels xs n loops l in ap (λ y. if bytes_eq x l then n else y) e ∙ first_or (bytes_eq x l) (list_any (λ x. bytes_eq x l) xs) n (exit_named loops l))
+among_labels (x ∷ xs) n loops l =
+    let e = among_labels xs n loops l in
+    ap (λ y. if bytes_eq x l then n else y) e ∙ first_or (bytes_eq x l) (list_any (λ x. bytes_eq x l) xs) n (exit_named loops l)
