@@ -1,0 +1,6 @@
+mod Blocks
+mod Sizes
+mod Staying
+mod Told
+mod Views
+mod Wholes

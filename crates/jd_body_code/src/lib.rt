@@ -1,0 +1,7 @@
+//! The resolved code that statements and bodies of Java stand for.
+#![tactic(auto)]
+
+mod bodies;
+mod statements;
+
+pub use bodies::{Made, body_of};
