@@ -1,1 +1,3 @@
+mod Gathering
+mod Refusing
 pub mod Walking

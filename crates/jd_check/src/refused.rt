@@ -17,8 +17,8 @@ use jd_naming::{Declares, InScope};
 use jd_statements::{Stop, judge_members};
 use std::alloc::Global;
 
-// How many classes are always there; they have no bodies.
-const PRELUDE_COUNT: u32 = 10;
+/// How many classes are always there; they have no bodies.
+pub(crate) const PRELUDE_COUNT: u32 = 10;
 
 /// A token that no program has at its place.
 #[derive(Clone, Copy, PartialEq, Eq)]
@@ -54,8 +54,8 @@ fn judge_class<D: Declares, S: InScope>(
     }
 }
 
-// The same of all classes.
-fn judge_classes<D: Declares>(
+/// The same of all classes.
+pub(crate) fn judge_classes<D: Declares>(
     alloc: Global,
     d: &D,
     classes: &Classes,
