@@ -9,7 +9,7 @@ use Rattle.jd_jcalls.specs.Handlers.{java_handler_view}
 use Rattle.jd_syntax.specs.JavaTypes.{PlainIdentifier}
 use Rattle.jd_syntax.specs.Names.{Name}
 use Rattle.jd_syntax.specs.SpecTrees.{PlainSpecBlock}
-use Rattle.jd_bodies.specs.Bodies.{Exits, Lines, block_if, block_lines, class_number, code_in, condition_code, effects_lines, handler_lines, has_handlers, label_if, lines, loop_exits, loop_lines, try_lines, with_exit}
+use Rattle.jd_bodies.specs.Bodies.{Exits, Lines, Scoped, block_if, block_lines, class_number, code_in, condition_code, effects_lines, handler_lines, has_handlers, label_if, lines, loop_exits, loop_lines, try_lines, with_exit}
 use Rattle.jd_bodies.specs.Codes.{code_of}
 use Rattle.jd_bodies.specs.Declarations.{Declarations}
 use Rattle.jd_bodies.specs.Scopes.{Local}
@@ -32,6 +32,10 @@ some_there (h ∷ hs) some = refl
 module _ (d : Declarations) (place : Place) where
   pub told : (Q : Lines → Type 0) (s t : JavaStmt) (labels : List (List ℕ)) (x : Exits) (ls : List Local) (q : Progress) → s ≡ t → Q (lines d place t labels x ls q).lines → Q (lines d place s labels x ls q).lines
   told Q s t labels x ls q is given = subst (λ (y : JavaStmt). Q (lines d place y labels x ls q).lines) (sym is) given
+
+  -- the same with what is in scope behind it
+  pub scoped_told : (Q : Scoped → Type 0) (s t : JavaStmt) (labels : List (List ℕ)) (x : Exits) (ls : List Local) (q : Progress) → s ≡ t → Q (lines d place t labels x ls q) → Q (lines d place s labels x ls q)
+  scoped_told Q s t labels x ls q is given = subst (λ (y : JavaStmt). Q (lines d place y labels x ls q)) (sym is) given
 
   abbrev Handled : ℕ → List ℕ → JavaStmts → Exits → List Local → Progress → Progress × PlainPart
   Handled class name ss x ls q =
