@@ -1,9 +1,10 @@
 -- What a declaration says of a case, as plain values.
-use Rattle.std.specs.Prelude.{ℕ}
+use Rattle.std.specs.Prelude.{◌≡◌, ℕ, [], ◌∷◌}
 use Rattle.jd_base.specs.declared.ids.ClassId.{ClassId}
 use Rattle.jd_base.specs.declared.sort.Sort.{Sort}
 use Rattle.jd_syntax.specs.CodeViews.{kind_view}
 use Rattle.jd_term.specs.TermViews.{const_view}
+use Rattle.jd_model.specs.Tables.{sort_letter}
 use Rattle.jd_model.specs.Cases as plain
 use Rattle.jd_model.specs.Programs as model
 use Rattle.jd_row_makers.specs.declared.heads.Behaviour.{Behaviour}
@@ -44,3 +45,7 @@ behaviour_view behaviours.ExceptionalOnly = plain.ExceptionalOnly
 -- a field's number and the sort of what it holds
 abbrev pub field_view : FieldSort → ℕ × Sort
 field_view f = (f.field.0, f.sort)
+
+-- the byte is the letter of constants of the sort
+abbrev pub is_letter : Sort → ℕ → Type 0
+is_letter s b = sort_letter s ≡ b ∷ []

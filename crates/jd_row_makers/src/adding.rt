@@ -19,7 +19,7 @@ use jd_term::{Formula, Term};
 use std::alloc::Global;
 
 /// Puts a formula behind others.
-pub(crate) fn add(to: &mut Vec<Formula>, f: Result<Formula, NoMemory>) -> Result<(), NoMemory>
+pub fn add(to: &mut Vec<Formula>, f: Result<Formula, NoMemory>) -> Result<(), NoMemory>
     ensures { (x : PlainFormula) → GivesFormula f x → OnOk result (map formula_view to.new.items ≡ map formula_view to.old.items ++ x ∷ []) }
 {
     put(to, f?)

@@ -56,7 +56,7 @@ fn implied(
 }
 
 /// `(and a b)`
-pub(crate) fn and(
+pub fn and(
     alloc: Global,
     a: Result<Formula, NoMemory>,
     b: Result<Formula, NoMemory>,
@@ -67,7 +67,7 @@ pub(crate) fn and(
 }
 
 /// `(or a b)`
-pub(crate) fn or(
+pub fn or(
     alloc: Global,
     a: Result<Formula, NoMemory>,
     b: Result<Formula, NoMemory>,
@@ -78,7 +78,7 @@ pub(crate) fn or(
 }
 
 /// `(imp a b)`
-pub(crate) fn implies(
+pub fn implies(
     alloc: Global,
     a: Result<Formula, NoMemory>,
     b: Result<Formula, NoMemory>,
@@ -89,10 +89,7 @@ pub(crate) fn implies(
 }
 
 /// `(eq a b)`
-pub(crate) fn equal(
-    a: Result<Term, NoMemory>,
-    b: Result<Term, NoMemory>,
-) -> Result<Formula, NoMemory>
+pub fn equal(a: Result<Term, NoMemory>, b: Result<Term, NoMemory>) -> Result<Formula, NoMemory>
     ensures { (x y : PlainTerm) → GivesTerm a x → GivesTerm b y → GivesFormula result (plain.Equal x y) }
 {
     let (a, b) = both(a, b)?;
@@ -100,10 +97,7 @@ pub(crate) fn equal(
 }
 
 /// `(inv a b)`
-pub(crate) fn invariant(
-    a: Result<Term, NoMemory>,
-    b: Result<Term, NoMemory>,
-) -> Result<Formula, NoMemory>
+pub fn invariant(a: Result<Term, NoMemory>, b: Result<Term, NoMemory>) -> Result<Formula, NoMemory>
     ensures { (x y : PlainTerm) → GivesTerm a x → GivesTerm b y → GivesFormula result (plain.Invariant x y) }
 {
     let (a, b) = both(a, b)?;
@@ -111,35 +105,35 @@ pub(crate) fn invariant(
 }
 
 /// `(wf a)`
-pub(crate) fn well_formed(a: Result<Term, NoMemory>) -> Result<Formula, NoMemory>
+pub fn well_formed(a: Result<Term, NoMemory>) -> Result<Formula, NoMemory>
     ensures { (x : PlainTerm) → GivesTerm a x → GivesFormula result (plain.WellFormed x) }
 {
     Ok(Formula::WellFormed(a?))
 }
 
 /// `(inInt a)`
-pub(crate) fn in_int(a: Result<Term, NoMemory>) -> Result<Formula, NoMemory>
+pub fn in_int(a: Result<Term, NoMemory>) -> Result<Formula, NoMemory>
     ensures { (x : PlainTerm) → GivesTerm a x → GivesFormula result (plain.InInt x) }
 {
     Ok(Formula::InInt(a?))
 }
 
 /// `(inst k a)`
-pub(crate) fn instance(kind: Kind, a: Result<Term, NoMemory>) -> Result<Formula, NoMemory>
+pub fn instance(kind: Kind, a: Result<Term, NoMemory>) -> Result<Formula, NoMemory>
     ensures { (x : PlainTerm) → GivesTerm a x → GivesFormula result (plain.IsInstance (kind_view kind) x) }
 {
     Ok(Formula::IsInstance(kind, a?))
 }
 
 /// `(exact k a)`
-pub(crate) fn exact(kind: Kind, a: Result<Term, NoMemory>) -> Result<Formula, NoMemory>
+pub fn exact(kind: Kind, a: Result<Term, NoMemory>) -> Result<Formula, NoMemory>
     ensures { (x : PlainTerm) → GivesTerm a x → GivesFormula result (plain.IsExactInstance (kind_view kind) x) }
 {
     Ok(Formula::IsExactInstance(kind, a?))
 }
 
 /// That the object is created in the heap.
-pub(crate) fn created(
+pub fn created(
     alloc: Global,
     heap: Result<Term, NoMemory>,
     object: Result<Term, NoMemory>,

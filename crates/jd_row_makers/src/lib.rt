@@ -2,6 +2,7 @@
 #![tactic(auto)]
 
 mod adding;
+mod constants;
 mod ends;
 mod entry;
 mod forms;
@@ -9,6 +10,12 @@ mod heads;
 mod rows;
 mod terms;
 
+pub use adding::add;
+pub use constants::parameter_constant;
 pub use ends::{one_of_classes, signalled};
+pub use forms::{
+    and, created, equal, exact, implies, in_int, instance, invariant, or, well_formed,
+};
 pub use heads::{Behaviour, Clauses, ContractType, DeclaredType, FieldSort, Head, Parameter, Role};
 pub use rows::{CaseNumber, case_form};
+pub use terms::{Moment, heap, heap_variable, receiver, result_variable, thrown, thrown_variable};

@@ -1,5 +1,8 @@
 //! The terms by which rows speak of the heap, the receiver, the result and what is thrown.
 
+ghost use Rattle.std.specs.Prelude.{◌≡◌, IfOk};
+ghost use Rattle.jd_syntax.specs.CodeNames.{heap_name};
+ghost use Rattle.jd_syntax.specs.Names.{Name, var_view};
 ghost use Rattle.jd_model.specs.SpecialNames.{receiver, result_variable, thrown_variable};
 ghost use Rattle.jd_row_makers.specs.Terms.{heap_at, subject_term};
 ghost use Rattle.jd_term.specs.Makers.{GivesTerm};
@@ -13,7 +16,7 @@ use std::alloc::Global;
 
 /// When a row's member is true.
 #[derive(Clone, Copy)]
-pub(crate) enum Moment {
+pub enum Moment {
     /// At the entry.
     Entry,
     /// Where the method has ended.
@@ -29,12 +32,46 @@ pub(crate) enum Subject<'a> {
     Result(Sort),
 }
 
-// The program variable of this name.
-fn variable(alloc: Global, name: &[u8], sort: Sort) -> Result<Term, NoMemory>
-    ensures { GivesTerm result (ProgramVariable (record { text = name.now; sort = sort })) }
+// The variable of this name.
+fn named(alloc: Global, name: &[u8], sort: Sort) -> Result<VarId, NoMemory>
+    ensures { IfOk result (λ v. var_view v ≡ record { text = name.now; sort = sort }) }
 {
     let name = copy_bytes(alloc, name)?;
-    Ok(Term::ProgramVariable(VarId { name, sort }))
+    Ok(VarId { name, sort })
+}
+
+/// The heap's variable.
+pub fn heap_variable(alloc: Global) -> Result<VarId, NoMemory>
+    ensures { IfOk result (λ v. var_view v ≡ heap_name) }
+{
+    named(alloc, b"@heap", Sort::Heap)
+}
+
+/// The variable of what was thrown.
+pub fn thrown_variable(alloc: Global) -> Result<VarId, NoMemory>
+    ensures { IfOk result (λ v. var_view v ≡ thrown_variable) }
+{
+    named(alloc, b"@rexc", Sort::Ref)
+}
+
+/// The variable of a result of this sort.
+pub fn result_variable(alloc: Global, sort: Sort) -> Result<VarId, NoMemory>
+    ensures { IfOk result (λ v. var_view v ≡ result_variable sort) }
+{
+    match sort {
+        Sort::Int => named(alloc, b"@ires", Sort::Int),
+        Sort::Bool => named(alloc, b"@bres", Sort::Bool),
+        Sort::Ref => named(alloc, b"@rres", Sort::Ref),
+        Sort::Heap => named(alloc, b"@hres", Sort::Heap),
+        Sort::Field => named(alloc, b"@fres", Sort::Field),
+    }
+}
+
+// The variable as a term.
+fn read(v: Result<VarId, NoMemory>) -> Result<Term, NoMemory>
+    ensures { (x : Name) → IfOk v (λ w. var_view w ≡ x) → GivesTerm result (ProgramVariable x) }
+{
+    Ok(Term::ProgramVariable(v?))
 }
 
 // The constant of this name.
@@ -46,40 +83,27 @@ fn constant(alloc: Global, name: &[u8], sort: Sort) -> Result<Term, NoMemory>
 }
 
 /// The heap at this time.
-pub(crate) fn heap(alloc: Global, at: Moment) -> Result<Term, NoMemory>
+pub fn heap(alloc: Global, at: Moment) -> Result<Term, NoMemory>
     ensures { GivesTerm result (heap_at at) }
 {
     match at {
         Moment::Entry => constant(alloc, b"#hpre", Sort::Heap),
-        Moment::End => variable(alloc, b"@heap", Sort::Heap),
+        Moment::End => read(heap_variable(alloc)),
     }
 }
 
 /// The receiver.
-pub(crate) fn receiver(alloc: Global) -> Result<Term, NoMemory>
+pub fn receiver(alloc: Global) -> Result<Term, NoMemory>
     ensures { GivesTerm result (Constant receiver) }
 {
     constant(alloc, b"#r_this", Sort::Ref)
 }
 
 /// What was thrown.
-pub(crate) fn thrown(alloc: Global) -> Result<Term, NoMemory>
+pub fn thrown(alloc: Global) -> Result<Term, NoMemory>
     ensures { GivesTerm result (ProgramVariable thrown_variable) }
 {
-    variable(alloc, b"@rexc", Sort::Ref)
-}
-
-// The result, of this sort.
-fn outcome(alloc: Global, sort: Sort) -> Result<Term, NoMemory>
-    ensures { GivesTerm result (ProgramVariable (result_variable sort)) }
-{
-    match sort {
-        Sort::Int => variable(alloc, b"@ires", Sort::Int),
-        Sort::Bool => variable(alloc, b"@bres", Sort::Bool),
-        Sort::Ref => variable(alloc, b"@rres", Sort::Ref),
-        Sort::Heap => variable(alloc, b"@hres", Sort::Heap),
-        Sort::Field => variable(alloc, b"@fres", Sort::Field),
-    }
+    read(thrown_variable(alloc))
 }
 
 // A copy of the constant.
@@ -96,6 +120,6 @@ pub(crate) fn term_of(alloc: Global, s: Subject<'_>) -> Result<Term, NoMemory>
 {
     match s {
         Subject::Parameter(c) => constant_of(alloc, c),
-        Subject::Result(sort) => outcome(alloc, sort),
+        Subject::Result(sort) => read(result_variable(alloc, sort)),
     }
 }
