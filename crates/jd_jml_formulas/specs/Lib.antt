@@ -1,0 +1,3 @@
+pub mod Spellings
+pub mod Meant
+pub mod Limits
