@@ -22,8 +22,8 @@ use jd_syntax::Kind;
 use jd_term::Formula;
 use std::alloc::Global;
 
-// The sort of what has the type.
-fn sort_of(t: ContractType) -> Sort
+/// The sort of what has the type.
+pub fn sort_of_type(t: ContractType) -> Sort
     ensures { result ≡ type_sort (type_view t) }
 {
     match t {
@@ -43,7 +43,13 @@ fn add_result(
 {
     match outcome {
         None => Ok(()),
-        Some(t) => add_typed(alloc, to, Moment::End, t, Subject::Result(sort_of(t.form))),
+        Some(t) => add_typed(
+            alloc,
+            to,
+            Moment::End,
+            t,
+            Subject::Result(sort_of_type(t.form)),
+        ),
     }
 }
 

@@ -12,7 +12,7 @@ mod terms;
 
 pub use adding::add;
 pub use constants::parameter_constant;
-pub use ends::{one_of_classes, signalled};
+pub use ends::{one_of_classes, signalled, sort_of_type};
 pub use forms::{
     and, created, equal, exact, implies, in_int, instance, invariant, or, well_formed,
 };
