@@ -1,1 +1,2 @@
+mod Large
 mod Spellings
