@@ -1,7 +1,6 @@
 -- What stands for names, members, operators and quantifiers.
-use Rattle.std.proofs.Common.{◌≡◌, ℕ, Bool, true, false, ℤ, neg_ℤ, List, [], ◌∷◌, Option, Some, None, if◌then◌else◌, refl, sym, ap, ◌∙◌, bytes_eq}
+use Rattle.std.proofs.Common.{◌≡◌, ℕ, Bool, true, false, ℤ, neg_ℤ, List, [], ◌∷◌, Option, Some, None, if◌then◌else◌, refl, sym, ap, bytes_eq}
 use Rattle.std.proofs.lemmas.Option.{none-some, same_Some}
-use Rattle.jd_base.specs.declared.sort.Sort.{Sort}
 use Rattle.jd_syntax.specs.declared.java.InfixOperator.{InfixOperator}
 use Rattle.jd_syntax.specs.declared.java.InfixOperator.TheVariants as operators
 use Rattle.jd_syntax.specs.declared.spec.Quantifier.{Quantifier}
@@ -80,7 +79,6 @@ module _ (p : Program) (sp : Spelling) where
   pub literal_formula : (t : When) (b : Bool) → truth_formula b ≡ formula p sp t (jml.BooleanLiteral b)
   literal_formula t true = refl
   literal_formula t false = refl
-
 
   pub own_formula : (t : When) (o : JmlExpr) (v : Option Variable) → is_true (term p sp t (own_member o v)) ≡ formula p sp t (own_member o v)
   own_formula t o None = refl

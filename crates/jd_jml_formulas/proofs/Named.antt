@@ -1,5 +1,5 @@
 -- What stands for names and members.
-use Rattle.std.proofs.Common.{◌≡◌, ℕ, Bool, false, Option, Some, None, option_map, refl, sym, ap, subst, ◌∙◌}
+use Rattle.std.proofs.Common.{◌≡◌, ℕ, false, Option, Some, None, option_map, sym, ap, subst, ◌∙◌}
 use Rattle.std.proofs.lemmas.Option.{none-some, same_Some}
 use Rattle.jd_base.specs.declared.sort.Sort.{Sort}
 use Rattle.jd_term.specs.Terms as terms

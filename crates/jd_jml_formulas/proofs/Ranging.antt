@@ -1,5 +1,5 @@
 -- What bound variables are given to be.
-use Rattle.std.proofs.Common.{◌≡◌, refl, sym, ap, subst, ◌∙◌}
+use Rattle.std.proofs.Common.{◌≡◌, refl, sym, subst}
 use Rattle.jd_base.specs.declared.sort.Sort.TheVariants as sorts
 use Rattle.jd_syntax.specs.Codes.{PlainKind}
 use Rattle.jd_syntax.specs.declared.spec.Quantifier.{Quantifier}

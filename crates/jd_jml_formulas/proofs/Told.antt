@@ -1,5 +1,5 @@
 -- What stands for expressions by their forms.
-use Rattle.std.proofs.Common.{◌≡◌, ℕ, Bool, false, List, ◌∷◌, Option, Some, None, ℤ, neg_ℤ, refl, sym, ap, subst, ◌∙◌}
+use Rattle.std.proofs.Common.{◌≡◌, ℕ, Bool, false, List, ◌∷◌, Some, None, sym, ap, subst, ◌∙◌}
 use Rattle.jd_syntax.specs.Codes.{PlainKind}
 use Rattle.jd_syntax.specs.JavaTypes.{PlainIdentifier, PlainWritten}
 use Rattle.jd_syntax.specs.SpecTrees as trees
@@ -29,8 +29,7 @@ use Rattle.jd_jml_known.specs.Members.{literal_of, read_of}
 use Rattle.jd_jml_known.specs.Scopes.{binder_by}
 use Rattle.jd_jml_known.specs.declared.members.Member.{Member}
 use Rattle.jd_jml_formulas.specs.declared.operators.Operands.{Operands}
-use Rattle.jd_jml_formulas.specs.declared.operators.Operands.TheVariants as operands
-use Rattle.jd_jml_formulas.specs.Meant.{arithmetic_by, formula_meant, given, is_true, of_truths, of_values, operands_of, ranged, term_meant}
+use Rattle.jd_jml_formulas.specs.Meant.{arithmetic_by, formula_meant, given, is_true, operands_of, ranged, term_meant}
 use Rattle.jd_jml_formulas.proofs.Meanings.{arithmetic_term, by_operands, field_formula, infix_formula, literal_formula, name_formula, no_number, minus_other, quantified_formula, ranged_formula}
 
 module _ (p : Program) (d : Declarations) (class : ℕ) (value : ValueType) (sp : Spelling) (t : When) (es : List Entry) where

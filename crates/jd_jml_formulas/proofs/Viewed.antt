@@ -1,5 +1,5 @@
 -- What the forms of expressions are seen as, with parts that are lent.
-use Rattle.std.proofs.Common.{◌≡◌, ℕ, Bool, List, Box, Global, Vec, sym, ap, ◌∙◌}
+use Rattle.std.proofs.Common.{◌≡◌, ℕ, ℤ, Bool, List, map, Box, Global, Vec, sym, ap, ◌∙◌}
 use Rattle.jd_syntax.specs.declared.java.Identifier.{Identifier}
 use Rattle.jd_syntax.specs.declared.java.InfixOperator.{InfixOperator}
 use Rattle.jd_syntax.specs.declared.java.WrittenType.{WrittenType}
@@ -13,13 +13,31 @@ use Rattle.jd_syntax.specs.declared.spec.SpecPrefix.{SpecPrefix}
 use Rattle.jd_syntax.specs.declared.spec.SpecType.{SpecType}
 use Rattle.jd_syntax.specs.JavaTypes.{identifier_view, written_view}
 use Rattle.jd_syntax.specs.SpecTrees as trees
-use Rattle.jd_syntax.specs.SpecTrees.{PlainSpec, spec_form_layer, spec_layer, spec_type_view, spec_view}
+use Rattle.jd_syntax.specs.SpecTrees.{PlainSpec, spec_form_layer, spec_layer, spec_type_view, spec_view, specs_of}
 
 abbrev form_view : SpecForm → ℕ → PlainSpec
 form_view = fold-SpecForm (ℕ → PlainSpec) PlainSpec spec_form_layer spec_layer
 
 viewed : (s : SpecExpr) (f : SpecForm) (x : PlainSpec) → s.form ≡ f → form_view f s.at ≡ x → spec_view s ≡ x
 viewed s f x is view = fold_out-SpecExpr (ℕ → PlainSpec) PlainSpec spec_form_layer spec_layer s ∙ ap (λ g. form_view g s.at) is ∙ view
+
+pub is_integer : (s : SpecExpr) (n : ℤ) → s.form ≡ forms.Integer n → spec_view s ≡ trees.Integer s.at n
+is_integer s n is = viewed s _ _ is (ap (λ g. form_view g s.at) (sym (forms.rolls-Integer n)) ∙ ap (λ g. g s.at) (fold-roll-SpecForm (ℕ → PlainSpec) PlainSpec spec_form_layer spec_layer (layers.Integer n)))
+
+pub is_null : (s : SpecExpr) → s.form ≡ forms.Null → spec_view s ≡ trees.Null s.at
+is_null s is = viewed s _ _ is (ap (λ g. form_view g s.at) (sym (forms.rolls-Null)) ∙ ap (λ g. g s.at) (fold-roll-SpecForm (ℕ → PlainSpec) PlainSpec spec_form_layer spec_layer layers.Null))
+
+pub is_this : (s : SpecExpr) → s.form ≡ forms.This → spec_view s ≡ trees.This s.at
+is_this s is = viewed s _ _ is (ap (λ g. form_view g s.at) (sym (forms.rolls-This)) ∙ ap (λ g. g s.at) (fold-roll-SpecForm (ℕ → PlainSpec) PlainSpec spec_form_layer spec_layer layers.This))
+
+pub is_result : (s : SpecExpr) → s.form ≡ forms.Result → spec_view s ≡ trees.Result s.at
+is_result s is = viewed s _ _ is (ap (λ g. form_view g s.at) (sym (forms.rolls-Result)) ∙ ap (λ g. g s.at) (fold-roll-SpecForm (ℕ → PlainSpec) PlainSpec spec_form_layer spec_layer layers.Result))
+
+pub is_call : (s : SpecExpr) (m : Vec ℕ Global) (es : Vec SpecExpr Global) → s.form ≡ forms.Call m es → spec_view s ≡ trees.Call s.at m.items (specs_of (map spec_view es.items))
+is_call s m es is = viewed s _ _ is (ap (λ g. form_view g s.at) (sym (forms.rolls-Call m es)) ∙ ap (λ g. g s.at) (fold-roll-SpecForm (ℕ → PlainSpec) PlainSpec spec_form_layer spec_layer (layers.Call m es)))
+
+pub is_method_call : (s : SpecExpr) (a : Box SpecExpr Global) (m : Identifier) (es : Vec SpecExpr Global) → s.form ≡ forms.MethodCall a m es → spec_view s ≡ trees.MethodCall s.at (spec_view a.value) (identifier_view m) (specs_of (map spec_view es.items))
+is_method_call s a m es is = viewed s _ _ is (ap (λ g. form_view g s.at) (sym (forms.rolls-MethodCall a m es)) ∙ ap (λ g. g s.at) (fold-roll-SpecForm (ℕ → PlainSpec) PlainSpec spec_form_layer spec_layer (layers.MethodCall a m es)))
 
 pub is_boolean : (s : SpecExpr) (b : Bool) → s.form ≡ forms.Boolean b → spec_view s ≡ trees.Boolean s.at b
 is_boolean s b is =

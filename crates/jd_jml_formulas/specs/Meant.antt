@@ -2,7 +2,6 @@
 use Rattle.std.specs.Prelude.{ℕ, Bool, true, false, List, map, Option, Some, None}
 use Rattle.jd_term.specs.declared.term.ArithmeticOp.{ArithmeticOp}
 use Rattle.jd_term.specs.declared.term.ArithmeticOp.TheVariants as operations
-use Rattle.jd_base.specs.declared.sort.Sort.{Sort}
 use Rattle.jd_syntax.specs.SpecTrees.{PlainSpec, PlainLocation}
 use Rattle.jd_syntax.specs.declared.java.InfixOperator.{InfixOperator}
 use Rattle.jd_syntax.specs.declared.java.InfixOperator.TheVariants as operators

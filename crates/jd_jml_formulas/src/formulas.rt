@@ -98,15 +98,15 @@ pub(crate) fn formula_of<'n, D: Declares>(
             let whole = ranged(m.alloc, *q, range, formula_of(m, t, o, &inner));
             quantified(m, t, *q, over, whole)
         }
+        SpecForm::Integer(_) => is_true(term_of(m, t, e, names)),
+        SpecForm::Null => is_true(term_of(m, t, e, names)),
+        SpecForm::This => is_true(term_of(m, t, e, names)),
+        SpecForm::Result => is_true(term_of(m, t, e, names)),
         SpecForm::Name(_) => is_true(term_of(m, t, e, names)),
         SpecForm::Field(_, _) => is_true(term_of(m, t, e, names)),
-        SpecForm::Integer(_)
-        | SpecForm::Null
-        | SpecForm::This
-        | SpecForm::Result
-        | SpecForm::Call(_, _)
-        | SpecForm::MethodCall(_, _, _)
-        | SpecForm::Index(_, _)
-        | SpecForm::Sum(_, _, _, _) => is_true(term_of(m, t, e, names)),
+        SpecForm::Call(_, _) => is_true(term_of(m, t, e, names)),
+        SpecForm::MethodCall(_, _, _) => is_true(term_of(m, t, e, names)),
+        SpecForm::Index(_, _) => is_true(term_of(m, t, e, names)),
+        SpecForm::Sum(_, _, _, _) => is_true(term_of(m, t, e, names)),
     }
 }

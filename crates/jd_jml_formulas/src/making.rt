@@ -1,10 +1,8 @@
 //! What expressions speak of.
 
-ghost use Rattle.std.specs.Prelude.{◌≡◌, ℕ};
 ghost use Rattle.jd_jml_formulas.specs.Spellings.{spelling_view, when_view};
 ghost use Rattle.jd_sized_makers.specs.Made.{IsTerm};
 ghost use Rattle.jd_jml_formulas.specs.Spellings.{argument_in};
-ghost use Rattle.std.specs.Prelude.{IfOk};
 
 use jd_jml_known::Sight;
 use jd_naming::Declares;

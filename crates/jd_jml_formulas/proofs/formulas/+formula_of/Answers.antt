@@ -10,7 +10,7 @@ use Rattle.jd_jml_known.specs.Scopes.{visible}
 use Rattle.jd_jml_formulas.specs.declared.operators.Operands.TheVariants as operands
 use Rattle.jd_jml_formulas.specs.Spellings.{spelling_view, when_view}
 use Rattle.jd_jml_formulas.proofs.Told.{field_told, formula_told, infix_told, instance_told, name_told, quantified_told, ranged_told, truth_told, value_told}
-use Rattle.jd_jml_formulas.proofs.Viewed.{is_boolean, is_cast, is_conditional, is_equivalent, is_field, is_fresh, is_implies, is_infix, is_instance_of, is_invariant_for, is_name, is_old, is_parenthesized, is_prefix, is_quantified, is_quantified_in}
+use Rattle.jd_jml_formulas.proofs.Viewed.{is_boolean, is_call, is_cast, is_conditional, is_equivalent, is_field, is_fresh, is_implies, is_index, is_infix, is_instance_of, is_integer, is_invariant_for, is_method_call, is_name, is_null, is_old, is_parenthesized, is_prefix, is_quantified, is_quantified_in, is_result, is_sum, is_this}
 use Rattle.jd_jml_formulas.proofs.formulas.+formula_of.Goals as goal
 
 pub returns-in-Implies : goal.returns-in-Implies
@@ -47,7 +47,7 @@ pub returns-in-Boolean : goal.returns-in-Boolean
 returns-in-Boolean g t c = λ p h. truth_told p (g.D.Declares.declarations c.args.m.now.sight.declared.now) c.args.m.now.sight.class c.args.m.now.sight.result (spelling_view c.args.m.now.spelled.now) (when_view c.args.t) (visible c.args.names.now) c.truth.result (spec_view c.args.e.now) c.args.e.now.at c.in-Boolean.holds (is_boolean c.args.e.now _ c.in-Boolean.is) c.truth.ensures
 
 pub returns-in-Parenthesized : goal.returns-in-Parenthesized
-returns-in-Parenthesized g t c = λ p h. formula_told p (g.D.Declares.declarations c.args.m.now.sight.declared.now) c.args.m.now.sight.class c.args.m.now.sight.result (spelling_view c.args.m.now.spelled.now) (when_view c.args.t) (visible c.args.names.now) c.formula_of.result (spec_view c.args.e.now) (trees.Parenthesized c.args.e.now.at (spec_view c.deref-in-Parenthesized.result.now)) (is_parenthesized c.args.e.now _ c.deref-in-Parenthesized.result.now c.in-Parenthesized.is c.deref-in-Parenthesized.ensures) (c.formula_of.ensures p h)
+returns-in-Parenthesized g t c = λ p h. formula_told p (g.D.Declares.declarations c.args.m.now.sight.declared.now) c.args.m.now.sight.class c.args.m.now.sight.result (spelling_view c.args.m.now.spelled.now) (when_view c.args.t) (visible c.args.names.now) c.formula_of.result (spec_view c.args.e.now) (trees.Parenthesized c.args.e.now.at (spec_view c.deref.result.now)) (is_parenthesized c.args.e.now _ c.deref.result.now c.in-Parenthesized.is c.deref.ensures) (c.formula_of.ensures p h)
 
 pub returns-in-Cast : goal.returns-in-Cast
 returns-in-Cast g t c = λ p h. formula_told p (g.D.Declares.declarations c.args.m.now.sight.declared.now) c.args.m.now.sight.class c.args.m.now.sight.result (spelling_view c.args.m.now.spelled.now) (when_view c.args.t) (visible c.args.names.now) c.formula_of-in-Cast.result (spec_view c.args.e.now) (trees.Cast c.args.e.now.at _ (spec_view c.deref-in-Cast.result.now)) (is_cast c.args.e.now _ _ c.deref-in-Cast.result.now c.in-Cast.is c.deref-in-Cast.ensures) (c.formula_of-in-Cast.ensures p h)
@@ -72,3 +72,27 @@ returns-in-Minus g t c = λ p h. value_told p (g.D.Declares.declarations c.args.
 
 pub returns-in-InstanceOf : goal.returns-in-InstanceOf
 returns-in-InstanceOf g t c = λ p h. instance_told p (g.D.Declares.declarations c.args.m.now.sight.declared.now) c.args.m.now.sight.class c.args.m.now.sight.result (spelling_view c.args.m.now.spelled.now) (when_view c.args.t) (visible c.args.names.now) c.instance.result (spec_view c.args.e.now) (spec_view c.deref-in-InstanceOf.result.now) c.args.e.now.at (written_view c.in-InstanceOf.w) c.type_by.result (kind_view c.kind_of-kind.result) (is_instance_of c.args.e.now _ _ c.deref-in-InstanceOf.result.now c.in-InstanceOf.is c.deref-in-InstanceOf.ensures) c.type_by.ensures c.kind_of-kind.ensures (c.instance.ensures _ (c.term_of-in-InstanceOf.ensures p h))
+
+pub returns-in-Integer : goal.returns-in-Integer
+returns-in-Integer g t c = λ p h. value_told p (g.D.Declares.declarations c.args.m.now.sight.declared.now) c.args.m.now.sight.class c.args.m.now.sight.result (spelling_view c.args.m.now.spelled.now) (when_view c.args.t) (visible c.args.names.now) c.is_true-in-Integer.result (spec_view c.args.e.now) _ (is_integer c.args.e.now _ c.in-Integer.is) refl (c.is_true-in-Integer.ensures _ (c.term_of-in-Integer.ensures p h))
+
+pub returns-in-Null : goal.returns-in-Null
+returns-in-Null g t c = λ p h. value_told p (g.D.Declares.declarations c.args.m.now.sight.declared.now) c.args.m.now.sight.class c.args.m.now.sight.result (spelling_view c.args.m.now.spelled.now) (when_view c.args.t) (visible c.args.names.now) c.is_true-in-Null.result (spec_view c.args.e.now) _ (is_null c.args.e.now c.in-Null.is) refl (c.is_true-in-Null.ensures _ (c.term_of-in-Null.ensures p h))
+
+pub returns-in-This : goal.returns-in-This
+returns-in-This g t c = λ p h. value_told p (g.D.Declares.declarations c.args.m.now.sight.declared.now) c.args.m.now.sight.class c.args.m.now.sight.result (spelling_view c.args.m.now.spelled.now) (when_view c.args.t) (visible c.args.names.now) c.is_true-in-This.result (spec_view c.args.e.now) _ (is_this c.args.e.now c.in-This.is) refl (c.is_true-in-This.ensures _ (c.term_of-in-This.ensures p h))
+
+pub returns-in-Result : goal.returns-in-Result
+returns-in-Result g t c = λ p h. value_told p (g.D.Declares.declarations c.args.m.now.sight.declared.now) c.args.m.now.sight.class c.args.m.now.sight.result (spelling_view c.args.m.now.spelled.now) (when_view c.args.t) (visible c.args.names.now) c.is_true-in-Result.result (spec_view c.args.e.now) _ (is_result c.args.e.now c.in-Result.is) refl (c.is_true-in-Result.ensures _ (c.term_of-in-Result.ensures p h))
+
+pub returns-in-Call : goal.returns-in-Call
+returns-in-Call g t c = λ p h. value_told p (g.D.Declares.declarations c.args.m.now.sight.declared.now) c.args.m.now.sight.class c.args.m.now.sight.result (spelling_view c.args.m.now.spelled.now) (when_view c.args.t) (visible c.args.names.now) c.is_true-in-Call.result (spec_view c.args.e.now) _ (is_call c.args.e.now _ _ c.in-Call.is) refl (c.is_true-in-Call.ensures _ (c.term_of-in-Call.ensures p h))
+
+pub returns-in-MethodCall : goal.returns-in-MethodCall
+returns-in-MethodCall g t c = λ p h. value_told p (g.D.Declares.declarations c.args.m.now.sight.declared.now) c.args.m.now.sight.class c.args.m.now.sight.result (spelling_view c.args.m.now.spelled.now) (when_view c.args.t) (visible c.args.names.now) c.is_true-in-MethodCall.result (spec_view c.args.e.now) _ (is_method_call c.args.e.now _ _ _ c.in-MethodCall.is) refl (c.is_true-in-MethodCall.ensures _ (c.term_of-in-MethodCall.ensures p h))
+
+pub returns-in-Index : goal.returns-in-Index
+returns-in-Index g t c = λ p h. value_told p (g.D.Declares.declarations c.args.m.now.sight.declared.now) c.args.m.now.sight.class c.args.m.now.sight.result (spelling_view c.args.m.now.spelled.now) (when_view c.args.t) (visible c.args.names.now) c.is_true-in-Index.result (spec_view c.args.e.now) _ (is_index c.args.e.now _ _ _ _ c.in-Index.is refl refl) refl (c.is_true-in-Index.ensures _ (c.term_of-in-Index.ensures p h))
+
+pub returns-in-Sum : goal.returns-in-Sum
+returns-in-Sum g t c = λ p h. value_told p (g.D.Declares.declarations c.args.m.now.sight.declared.now) c.args.m.now.sight.class c.args.m.now.sight.result (spelling_view c.args.m.now.spelled.now) (when_view c.args.t) (visible c.args.names.now) c.is_true-in-Sum.result (spec_view c.args.e.now) _ (is_sum c.args.e.now _ _ _ _ _ _ _ c.in-Sum.is refl refl refl) refl (c.is_true-in-Sum.ensures _ (c.term_of-in-Sum.ensures p h))
