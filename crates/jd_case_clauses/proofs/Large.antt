@@ -1,6 +1,7 @@
 -- That a formula is too large, as one of many.
-use Rattle.std.proofs.Common.{◌≡◌, ◌⊎◌, inl, inr, ◌<◌, ℕ, zero, suc, List, [], ◌∷◌, ◌++◌, length, map, get_or, Result, Ok, Err, IfErr, IsErrAnd, Option, Some, ap, subst, sym, ◌∙◌, arith}
-use Rattle.jd_syntax.specs.SpecTrees.{PlainClause, PlainSpec, clause_view}
+use Rattle.std.proofs.Common.{◌≡◌, inl, inr, ◌<◌, ◌≤◌, ◌+◌, ℕ, zero, suc, List, [], ◌∷◌, ◌++◌, length, map, drop, get_or, Result, Ok, Err, IfErr, IsErrAnd, Option, Some, refl, ap, subst, sym, ◌∙◌, arith, append_assoc}
+use Rattle.std.proofs.lemmas.List.{append-nil, drop_more}
+use Rattle.jd_syntax.specs.SpecTrees.{PlainSpec, clause_view}
 use Rattle.jd_syntax.specs.declared.spec.SpecClause.{SpecClause}
 use Rattle.jd_term.specs.Formulas.{PlainFormula}
 use Rattle.jd_specifications.specs.Resolution.{Entry}
@@ -28,6 +29,26 @@ module _ (limit : ℕ) (f : PlainSpec → PlainFormula) (k : Kind) where
   at_place [] i c lt is large = absurd (omega (arith, lt))
   at_place (d ∷ cs) zero c lt is large = among_first limit (map f (listed (said_in k (clause_view d)))) (made_of f k (map clause_view cs)) (subst (λ e. OneIsLarge limit (map f (listed (said_in k (clause_view e))))) is large)
   at_place (d ∷ cs) (suc i) c lt is large = among_last limit (map f (listed (said_in k (clause_view d)))) (made_of f k (map clause_view cs)) (at_place cs i c (omega (arith, lt)) is large)
+
+  -- one more of those that are made
+  pub one_more : (cs : List SpecClause) (i : ℕ) (c : SpecClause) (old new whole : List PlainFormula) → i < length cs → c ≡ get_or cs i c → new ≡ old ++ map f (listed (said_in k (clause_view c)))
+      → old ++ made_of f k (map clause_view (drop i cs)) ≡ whole → new ++ made_of f k (map clause_view (drop (i + 1) cs)) ≡ whole
+  one_more cs i c old new whole lt is more so_far =
+      let rest = made_of f k (map clause_view (drop (i + 1) cs)) in
+      ap (λ l. l ++ rest) more
+      ∙ append_assoc old (map f (listed (said_in k (clause_view c)))) rest
+      ∙ ap (λ d. old ++ (map f (listed (said_in k (clause_view d))) ++ rest)) is
+      ∙ ap (λ l. old ++ made_of f k (map clause_view l)) (sym (drop_more cs i c lt))
+      ∙ so_far
+
+  none_left : (cs : List SpecClause) (i : ℕ) → length cs ≤ i → made_of f k (map clause_view (drop i cs)) ≡ []
+  none_left [] zero past = refl
+  none_left [] (suc i) past = refl
+  none_left (c ∷ cs) zero past = absurd (omega (arith, past))
+  none_left (c ∷ cs) (suc i) past = none_left cs i (omega (arith, past))
+
+  pub all_made : (cs : List SpecClause) (i : ℕ) (made whole : List PlainFormula) → length cs ≤ i → made ++ made_of f k (map clause_view (drop i cs)) ≡ whole → made ≡ whole
+  all_made cs i made whole past so_far = sym (append-nil made) ∙ ap (λ l. made ++ l) (sym (none_left cs i past)) ∙ so_far
 
   pub passed_on : {A : Type 0} (cs : List SpecClause) (i : ℕ) (c : SpecClause) → i < length cs → c ≡ get_or cs i c → (r : Result A Unmade) (u : Unmade) → IsErrAnd r (λ e. e ≡ u)
       → TellsOfOne limit (map f (listed (said_in k (clause_view c)))) u → IfErr r (TellsOfOne limit (made_of f k (map clause_view cs)))
