@@ -1,0 +1,2 @@
+mod Large
+mod Spellings

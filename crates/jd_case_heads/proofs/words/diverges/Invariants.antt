@@ -1,0 +1,8 @@
+use Rattle.std.proofs.Common.{◌≡◌, drop, map}
+use Rattle.jd_specifications.specs.WrittenCases as plain
+use Rattle.jd_syntax.specs.SpecTrees.{clause_view}
+use Rattle.jd_case_heads.proofs.words.diverges.Given as goal
+
+-- those that are left say it
+abbrev pub invariant-loop-c : goal.invariant-loop-c
+invariant-loop-c l = plain.diverges (map clause_view (drop l.c-index l.cs)) ≡ plain.diverges (map clause_view l.fn.cs)

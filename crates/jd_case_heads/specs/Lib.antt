@@ -1,0 +1,3 @@
+pub mod Parameters
+pub mod Roles
+pub mod Words

@@ -1,0 +1,2 @@
+mod Up
+mod Firsts

@@ -1,0 +1,4 @@
+pub mod Exits
+pub mod Frames
+pub mod Parts
+pub mod Starts

@@ -1,0 +1,4 @@
+pub mod Heads
+pub mod Listed
+pub mod Rows
+pub mod Terms
