@@ -1,0 +1,6 @@
+use Rattle.jd_schema_matching.specs.Tested.{tests}
+use Rattle.jd_schema_matching.proofs.Agreeing.{agreed_by}
+use Rattle.jd_schema_matching.proofs.tests.same_formula.Goals as goal
+
+pub returns : goal.returns
+returns c = agreed_by tests.formula _ _ _ c.equals.ensures

@@ -1,0 +1,6 @@
+use Rattle.jd_schema_matching.specs.Tested.{tests}
+use Rattle.jd_schema_matching.proofs.Agreeing.{agreed_by}
+use Rattle.jd_schema_matching.proofs.tests.same_result.Goals as goal
+
+pub returns : goal.returns
+returns c = agreed_by tests.result _ _ _ c.equal_results.ensures

@@ -1,0 +1,4 @@
+pub mod Tested
+pub mod Foci
+pub mod PartViews
+pub mod Bound

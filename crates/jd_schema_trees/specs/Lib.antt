@@ -1,0 +1,5 @@
+pub mod HeadViews
+pub mod TermViews
+pub mod CodeViews
+pub mod FormulaViews
+pub mod TacletViews
