@@ -1,3 +1,4 @@
 pub mod Said
 pub mod Scopes
+pub mod Signals
 pub mod Spelled

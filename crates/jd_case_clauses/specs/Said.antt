@@ -1,8 +1,8 @@
 -- The expressions that clauses of a kind say.
-use Rattle.std.specs.Prelude.{◌⊎◌, ◌<◌, ℕ, List, [], ◌∷◌, ◌++◌, map, Option, Some, None}
+use Rattle.std.specs.Prelude.{◌⊎◌, ◌<◌, ℕ, List, [], ◌∷◌, flat_map, map, Option, Some, None}
 use Rattle.jd_syntax.specs.SpecTrees.{PlainSpec, PlainClause, Requires, Ensures}
 use Rattle.jd_term.specs.Formulas.{PlainFormula}
-use Rattle.jd_term.specs.FormulaSizes.{formula_size}
+use Rattle.jd_term.specs.FormulaSizes.{formula_depth, formula_size}
 use Rattle.jd_jml_formulas.specs.declared.whole.Unmade.{Unmade}
 use Rattle.jd_jml_formulas.specs.declared.whole.Unmade.TheVariants as causes
 use Rattle.jd_case_clauses.specs.declared.said.Kind.{Kind}
@@ -24,14 +24,24 @@ abbrev pub listed : Option PlainSpec → List PlainSpec
 listed None = []
 listed (Some e) = e ∷ []
 
--- what is made of the expressions of all clauses of the kind, in their order
+-- what is made of what a clause of the kind says, and of those of all in their order
+abbrev pub said_by : (PlainSpec → PlainFormula) → Kind → PlainClause → List PlainFormula
+said_by f k c = map f (listed (said_in k c))
+
 abbrev pub made_of : (PlainSpec → PlainFormula) → Kind → List PlainClause → List PlainFormula
-made_of f k [] = []
-made_of f k (c ∷ cs) = map f (listed (said_in k c)) ++ made_of f k cs
+made_of f k cs = flat_map (said_by f k) cs
+
+-- a formula of an obligation has no more levels
+abbrev pub level_limit : ℕ
+level_limit = 1000
+
+-- it has more nodes than it may, or more levels
+abbrev pub IsLarge : ℕ → PlainFormula → Type 0
+IsLarge limit x = (limit < formula_size x) ⊎ (level_limit < formula_depth x)
 
 abbrev pub OneIsLarge : ℕ → List PlainFormula → Type 0
 OneIsLarge limit [] = ⊥
-OneIsLarge limit (x ∷ xs) = (limit < formula_size x) ⊎ OneIsLarge limit xs
+OneIsLarge limit (x ∷ xs) = IsLarge limit x ⊎ OneIsLarge limit xs
 
 -- where the cause is that a formula is too large, one of these is
 abbrev pub TellsOfOne : ℕ → List PlainFormula → Unmade → Type 0

@@ -61,10 +61,11 @@ fn said(kind: Kind, c: &SpecClause) -> Option<&SpecExpr>
     }
 }
 
-// Puts a formula that has been made behind others.
-fn add(to: &mut Vec<Formula>, f: Result<Formula, Unmade>) -> Result<(), Unmade>
+/// Puts a formula that has been made behind others.
+pub(crate) fn add(to: &mut Vec<Formula>, f: Result<Formula, Unmade>) -> Result<(), Unmade>
     ensures made { (x : PlainFormula) → IfOk f (λ g. formula_view g ≡ x) → OnOk result (map formula_view to.new.items ≡ map formula_view to.old.items ++ x ∷ []) }
     ensures why { (limit : ℕ) (x : PlainFormula) → IfErr f (Tells limit (formula_size x)) → IfErr result (TellsOfOne limit (x ∷ [])) }
+    ensures of_one { (limit : ℕ) (x : PlainFormula) → IfErr f (TellsOfOne limit (x ∷ [])) → IfErr result (TellsOfOne limit (x ∷ [])) }
 {
     let f = f?;
     match put(to, f) {
