@@ -1,2 +1,4 @@
+mod Contracts
 mod Large
 mod Spellings
+mod Unions
