@@ -1,0 +1,6 @@
+//! Matching of patterns of formulas.
+#![tactic(auto)]
+
+mod formulas;
+
+pub use formulas::match_formula;
