@@ -261,7 +261,7 @@ module _ (law : ParentsAreClasses) (of_classes : MembersAreOfClasses) (members :
       are_calls = tables.graph_.calls.1;
       reaches = decides;
       classes = classes;
-      fields_ = record { types = typed; has_field = λ c f. refl };
+      fields_ = record { types = typed; no_type = λ f none. ap (field_type_of d) none; has_field = λ c f. refl };
       lookup = record { seen = found; none = not_found };
       bodies = λ m. refl;
       invariants_ = λ c. refl;

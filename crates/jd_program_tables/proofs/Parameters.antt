@@ -23,15 +23,15 @@ use Rattle.jd_case_rows.specs.Laws.{AreTyped}
 use Rattle.jd_program_laws.proofs.Constants.{constant_for, refuted}
 
 module _ (d : Declarations) where
-  abbrev typed : JavaParameter → ValueType
+  abbrev pub typed : JavaParameter → ValueType
   typed x = type_by d.class_named x.ty.written
 
   -- what the parameters add to the variables
-  abbrev added : List (List ℕ) → List JavaParameter → List Declared
+  abbrev pub added : List (List ℕ) → List JavaParameter → List Declared
   added ns [] = []
   added ns (x ∷ xs) = declared (local_name (x.name.name ∷ ns) x.name.name (typed x)) (typed x) ∷ added (x.name.name ∷ ns) xs
 
-  all_added : (ps : List JavaParameter) (p : Progress) → (with_parameters d ps p).variables ≡ p.variables ++ added p.names ps
+  pub all_added : (ps : List JavaParameter) (p : Progress) → (with_parameters d ps p).variables ≡ p.variables ++ added p.names ps
   all_added [] p = sym (append-nil p.variables)
   all_added (x ∷ xs) p = all_added xs (with_local x.name.name (typed x) p) ∙ append_assoc p.variables _ (added (x.name.name ∷ p.names) xs)
 

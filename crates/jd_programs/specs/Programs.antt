@@ -47,6 +47,8 @@ declared_along lineage (Some f) = list_any (nat_eq f.class) lineage
 
 pub record HasFields (units : List JavaUnit) (d : Declarations) (p : model.Program) : Type 0 where
   pub types : (f : ℕ) (one : Declared) (t : PlainType) → slice_get (fields units) f ≡ Some one → one.kind ≡ FieldOf t → p.field_type f ≡ model_type d (type_by d.class_named t)
+  -- nothing is asked of a number that no field has; so that a program is one, it is an int's
+  pub no_type : (f : ℕ) → slice_get (fields units) f ≡ None → p.field_type f ≡ model.IntType
   pub has_field : (c f : ℕ) → p.has_field c f ≡ declared_along (p.superclasses c) (slice_get (fields units) f)
 
 -- a call runs the method that the object's class sees by the name of the one that is called (JLS 15.12.4.4)

@@ -1,0 +1,3 @@
+mod Growing
+mod Expressions
+mod Statements

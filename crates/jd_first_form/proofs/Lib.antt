@@ -1,0 +1,4 @@
+pub mod Counting
+pub mod Viewed
+pub mod Counts
+pub mod Whole

@@ -1,0 +1,4 @@
+pub mod Conditions
+pub mod Forms
+pub mod Shapes
+pub mod Steps
