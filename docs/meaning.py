@@ -2,7 +2,7 @@
 """Prints what the clause `kept` of `run` (crates/jdl/src/lib.rt) rests on: the files of specs/ with the definitions in them that
 are reached from the clause, each file behind those that it rests on, ties by the order of crates.txt and then of Lib.antt.
 
-usage: meaning.py            prints files, lines and names, the types of the code, what is named of the library, and how much it is
+usage: meaning.py            prints files, lines and names, types and constants of the code, what is named of the library, and how much it is
        meaning.py --check    compares the tables and the count of docs/MEANING.md with that; status 1 where they differ
 
 A definition is a paragraph of its file. It rests on each name in it that its file defines or imports (a bound variable or a field
@@ -64,6 +64,7 @@ class Project:
     def __init__(self):
         self.files, self.reached, self.rests, self.library = {}, [], collections.defaultdict(set), collections.defaultdict(set)
         self.types = {("jd_base", "Library"), ("jd_answer", "Status")}  # of `L.contents` and `Status.Done` in the clause
+        self.constants = collections.defaultdict(set)
         self.follow(START, words(re.search(r"ensures kept \{(.*?)\}\n", read(START), re.S)[1]))
 
     def file(self, path):
@@ -83,6 +84,8 @@ class Project:
                 got = re.fullmatch(r"Rattle\.(j\w+)\.specs\.(declared\.)?([\w.]+)", module)
                 if not got:
                     self.library[module].add(name or rest)
+                elif got[2] and got[3].endswith(".TheConstants"):
+                    self.constants[f"crates/{got[1]}/src/{got[3][:-13].replace('.', '/')}.rt"].add(name or rest)
                 elif got[2]:
                     self.types.add((got[1], got[3].replace(".TheVariants", "").split(".")[-1]))
                 else:
@@ -105,7 +108,8 @@ class Project:
             yield first
 
     def rows(self):
-        """Of each file below crates/ the lines that are reached, and the names there; then the same of each type of the code."""
+        """Of each file below crates/ the lines that are reached, and the names there; then the same of each type and of each file of constants
+        of the code."""
         for path in self.order():
             lines, before = [], False
             for d in self.file(path)[2]:
@@ -115,8 +119,16 @@ class Project:
             yield path[7:], lines, " ".join(d.name for d in self.file(path)[2] if d in self.reached)
         for crate, name in sorted(self.types):
             for path in sorted(glob.glob(f"crates/{crate}/src/*.rt")):
-                for got in re.finditer(rf"^pub (?:enum|trait) {name}\b.*?^}}", read(path), re.M | re.S):
+                for got in re.finditer(rf"^pub (?:enum|struct|trait) {name}\b.*?^}}", read(path), re.M | re.S):
                     yield path[7:], [[read(path)[:end].count("\n") + 1 for end in got.span()]], name
+        for path, names in sorted(self.constants.items()):
+            lines, before = [], False
+            for got in re.finditer(r"^(?:pub(?:\(crate\))? )?const (\w+): .*?;$", read(path), re.M | re.S):
+                first, last = (read(path)[:end].count("\n") + 1 for end in got.span())
+                if got[1] in names:
+                    lines = lines[:-1] + [(lines[-1][0], last)] if before else lines + [(first, last)]
+                before = got[1] in names
+            yield path[7:], lines, " ".join(sorted(names))
 
 
 def main():

@@ -1,4 +1,4 @@
-//! Rows of bodies: which token of the bodies of Java's methods is refused first, or that none is.
+//! Rows of bodies: which token of the bodies of Java's methods is refused first, or that none is; and what bodies are resolved to.
 #![tactic(auto)]
 
 mod answers;

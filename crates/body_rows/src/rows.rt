@@ -1,6 +1,6 @@
 //! Lines and what they ask.
 
-use crate::answers::ask;
+use crate::answers::{Asked, ask};
 use row_text::{Answer, first_word, unescaped};
 use std::alloc::{AllocError, Global};
 
@@ -58,7 +58,8 @@ impl Rows {
     }
 
     /// Takes a line: `around BEFORE|BEHIND`; `file TEXT` for a file before the next row's; or `body TEXT`, a row, whose text is the last file
-    /// of a program, between BEFORE and BEHIND. Lines that are empty or begin with `#` are passed over. Whether there is an answer.
+    /// of a program, between BEFORE and BEHIND; `code TEXT` asks for the code of the bodies, `count TEXT` how many are made. Lines that are
+    /// empty or begin with `#` are passed over. Whether there is an answer.
     pub(crate) fn take(&mut self, answer: &mut Answer, alloc: Global, line: &str) -> bool {
         if line.is_empty() || line.starts_with('#') {
             return false;
@@ -69,10 +70,13 @@ impl Rows {
             Ok(false) => answer.put("no text"),
             Err(_) => answer.lack_memory(),
         }
-        if word != "body" {
-            return false;
-        }
-        ask(answer, alloc, &self.files);
+        let asked = match word {
+            "body" => Asked::Refused,
+            "code" => Asked::Code,
+            "count" => Asked::Count,
+            _ => return false,
+        };
+        ask(answer, alloc, &self.files, asked);
         self.files.clear();
         true
     }

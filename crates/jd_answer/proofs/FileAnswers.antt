@@ -17,9 +17,12 @@ use Rattle.jd_jclasses.specs.Refusals.{AreClasses}
 use Rattle.jd_syntax.specs.JavaTrees.{JavaUnit}
 use Rattle.jd_refusals.specs.Laws.{OneTokenRefusal}
 use Rattle.jd_refusals.specs.Refusals.{IsFirst, PlainRefused}
-use Rattle.jd_first_java.specs.Programs.{Program}
+use Rattle.jd_sequent.specs.Limits.{IsWithinLimits}
+use Rattle.jd_sequent.specs.Obligations.{PlainTask}
+use Rattle.jd_first_tasks.specs.Laws.{OneFirstTask}
+use Rattle.jd_first_tasks.specs.Tasks.{IsFirstTask}
 use Rattle.jd_answer.specs.Answers.{SameAnswer, equal, refused_alike}
-use Rattle.jd_answer.specs.FileAnswers.{Tells, of_file, of_class, of_many_classes, of_many_methods, IsRefusal, of_files, of_token, of_form}
+use Rattle.jd_answer.specs.FileAnswers.{Tells, of_file, of_class, of_many_classes, of_many_methods, IsRefusal, of_files, of_token, of_form, of_size}
 use Rattle.jd_base.specs.declared.memory.NoMemory.{NoMemory}
 use Rattle.jd_answer.specs.declared.answer.Answer.{Answer}
 use Rattle.jd_answer.specs.Refusing.{NamesOneOf, TellsOf, TellsPlace, plain_refusal}
@@ -114,7 +117,12 @@ one_telling names r s status other text another (same _) tells tells' = told_the
 are_classes : (files : List (List ℕ)) → AreProgramFiles files → AreProgramClasses files
 are_classes files p = record { units = p.units; trees = p.trees; stand = p.stand }
 
-module _ (laws : OneFilesRefusal) (tokens : OneTokenRefusal) (names files : List (List ℕ)) where
+-- a program has one task
+pub one_task : OneFilesRefusal → OneFirstTask → (files : List (List ℕ)) (p p' : AreProgramFiles files) (q q' : PlainTask) → IsFirstTask p.units q → IsFirstTask p'.units q' → q ≡ q'
+one_task laws tasks files p p' q q' task task' =
+    tasks p.units p.stand q q' task (subst (λ us. IsFirstTask us q') (laws.one_list files p'.units p.units p'.trees p.trees) task')
+
+module _ (laws : OneFilesRefusal) (tokens : OneTokenRefusal) (tasks : OneFirstTask) (names files : List (List ℕ)) where
   -- what is refused of the tokens of files is one, and of a program's nothing
   one_token : (us vs : List JavaUnit) (r s : Option PlainRefused) → AreTrees files us → AreTrees files vs → AreClasses us → IsFirst us r → IsFirst vs s → r ≡ s
   one_token us vs r s trees trees' stand first first' = tokens.one us r s stand first (subst (λ l. IsFirst l s) (laws.one_list files vs us trees' trees) first')
@@ -134,24 +142,35 @@ module _ (laws : OneFilesRefusal) (tokens : OneTokenRefusal) (names files : List
   not_of_files : (us : List JavaUnit) (r : PlainRefusal) → AreTrees files us → AreClasses us → AreRefused files r → ⊥
   not_of_files us r trees stand refused = laws.not_refused files r (record { units = us; trees = trees; stand = stand }) refused
 
+  no_form : (p : AreProgramFiles files) → ((q : PlainTask) → IsFirstTask p.units q → ⊥) → (p' : AreProgramFiles files) (q : PlainTask) → IsFirstTask p'.units q → ⊥
+  no_form p none p' q task = none q (subst (λ us. IsFirstTask us q) (laws.one_list files p'.units p.units p'.trees p.trees) task)
+
   pub one_refusal : (status other : Status) (text another : List ℕ) → IsRefusal names files status text → IsRefusal names files other another → SameAnswer status text other another
   one_refusal status other text another (of_files r _ _ refused tells) (of_files s _ _ refused' tells') = one_telling names r s status other text another (laws.one files r s refused refused') tells tells'
   one_refusal status other text another (of_files r _ _ refused tells) (of_token us s name trees stand first named) = absurd (not_of_files us r trees stand refused)
   one_refusal status other text another (of_files r _ _ refused tells) (of_form first others is stand none) = absurd (laws.not_refused files r (are_classes files stand) refused)
+  one_refusal status other text another (of_files r _ _ refused tells) (of_size stand q task past) = absurd (laws.not_refused files r (are_classes files stand) refused)
   one_refusal status other text another (of_token us s name trees stand first named) (of_files r _ _ refused tells) = absurd (not_of_files us r trees stand refused)
   one_refusal status other text another (of_token us r name trees stand first named) (of_token vs s name' trees' stand' first' named') = same_token us vs r s name name' trees trees' stand first first' named named'
   one_refusal status other text another (of_token us r name trees stand first named) (of_form name' others is stands none) = absurd (not_refused us r trees stand first stands)
+  one_refusal status other text another (of_token us r name trees stand first named) (of_size stands q task past) = absurd (not_refused us r trees stand first stands)
   one_refusal status other text another (of_form first others is stand none) (of_files r _ _ refused tells) = absurd (laws.not_refused files r (are_classes files stand) refused)
   one_refusal status other text another (of_form name others is stands none) (of_token us r name' trees stand first named) = absurd (not_refused us r trees stand first stands)
   one_refusal status other text another (of_form first others is stand none) (of_form first' others' is' stand' none') =
       let same_names : first ∷ others ≡ first' ∷ others' = sym is ∙ is' in
       let heads : first ≡ first' = let both = same_names in cc in
       subst (λ n. SameAnswer RefusedSource (unbuilt_text first) RefusedSource (unbuilt_text n)) heads (equal RefusedSource (unbuilt_text first))
+  one_refusal status other text another (of_form first others is stand none) (of_size stand' q task past) = absurd (no_form stand none stand' q task)
+  one_refusal status other text another (of_size stand q task past) (of_files r _ _ refused tells) = absurd (laws.not_refused files r (are_classes files stand) refused)
+  one_refusal status other text another (of_size stands q task past) (of_token us r name trees stand first named) = absurd (not_refused us r trees stand first stands)
+  one_refusal status other text another (of_size stand q task past) (of_form first others is stand' none) = absurd (no_form stand' none stand q task)
+  one_refusal status other text another (of_size stand q task past) (of_size stand' q' task' past') = equal Limit _
 
-  pub no_program : (status : Status) (text : List ℕ) (q : Program) → IsRefusal names files status text → AreProgram files q → ⊥
+  pub no_program : (status : Status) (text : List ℕ) (q : PlainTask) → IsRefusal names files status text → AreProgram files q → ⊥
   no_program status text q (of_files r _ _ refused tells) program = laws.not_refused files r (are_classes files program.resolved) refused
   no_program status text q (of_token us r name trees stand first named) program = not_refused us r trees stand first program.resolved
-  no_program status text q (of_form first others is stand none) program = none q program
+  no_program status text q (of_form first others is stand none) program = no_form stand none program.resolved q program.task
+  no_program status text q (of_size stand q' task past) program = past (subst (λ (t : PlainTask). IsWithinLimits t.obligation.sequent) (one_task laws tasks files program.resolved stand q q' program.task task) program.within)
 
 -- ---- the status of a refusal
 
@@ -165,6 +184,7 @@ pub refusal_status : (names files : List (List ℕ)) (status : Status) (text : L
 refusal_status names files status text (of_files r _ _ refused tells) = tells_status names r status text tells
 refusal_status names files status text (of_token us r name trees stand first named) = inl refl
 refusal_status names files status text (of_form name others is stand none) = inl refl
+refusal_status names files status text (of_size stand q task past) = inr refl
 
 pub refusal_is_judged : (names files : List (List ℕ)) (status : Status) (text : List ℕ) → IsRefusal names files status text → IsJudged status
 refusal_is_judged names files status text refusal =

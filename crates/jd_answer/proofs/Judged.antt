@@ -15,8 +15,8 @@ use Rattle.jd_proofs.specs.Outcomes.{NoFile, UnknownObligation, outcome}
 use Rattle.jd_proofs.specs.Answers.{IsUnread}
 use Rattle.jd_proofs.specs.declared.refusal.ProofsRefusal.{ProofsRefusal}
 use Rattle.jd_proofs.specs.declared.refusal.ProofsRefusal.TheVariants as code
-use Rattle.jd_first_java.specs.Programs.{Program}
-use Rattle.jd_first_oblig.specs.Obligations.{obligation_name, obligation_sequent}
+use Rattle.jd_sequent.specs.Obligations.{PlainTask}
+use Rattle.jd_answer.specs.Sources.{obligation_name, obligation_sequent}
 use Rattle.jd_answer.specs.Reports.{IsReport, report_limit_text}
 use Rattle.jd_answer.specs.Answers.{HasProof, IsProofAnswer, IsNoFileAnswer, refused_file, many_steps, no_file, unknown, long_report, replayed, report_limit}
 use Rattle.jd_answer.specs.Scripts.{plain_answer, IsUnreadAnswer}
@@ -54,7 +54,7 @@ pub unread_is_judged : (file : List ℕ) (e : ProofsRefusal) (status : Status) (
 unread_is_judged file (code.File e) status text is = judged_no_file file is.answer status text is.tells
 unread_is_judged file (code.UnknownObligation name) status text is = rw (is.0) tt
 
-module _ (leads : PlainSequent → PlainStep → List PlainSequent → Type 0) (causes : PlainSequent → PlainStep → ℕ → Type 0) (q : Program) (file bytes called : List ℕ) (called_is : called ≡ obligation_name q) where
+module _ (leads : PlainSequent → PlainStep → List PlainSequent → Type 0) (causes : PlainSequent → PlainStep → ℕ → Type 0) (q : PlainTask) (file bytes called : List ℕ) (called_is : called ≡ obligation_name q) where
   unread_by : (e : ProofsRefusal) (status : Status) (text : List ℕ) → IsUnread (obligation_name q ∷ []) (tokens_of bytes) e → IsUnreadAnswer file e status text → IsProofAnswer leads causes q file bytes status text
   unread_by (code.File e) status text is tells = record {
     outcome = NoFile tells.answer;

@@ -2,8 +2,6 @@ pub mod Derivations
 pub mod FileAnswers
 pub mod Files
 pub mod Judged
-pub mod Lengths
-pub mod Literals
 pub mod Names
 pub mod ProofAnswers
 pub mod Reports

@@ -8,8 +8,8 @@ use Rattle.jd_scripts.specs.Answers as script
 use Rattle.jd_scripts.specs.Answers.{most_levels, most_steps}
 use Rattle.jd_scripts.proofs.Once.{one_answer}
 use Rattle.jd_proofs.specs.Outcomes.{Outcome, NoFile, Trees, IsOutcome, outcome}
-use Rattle.jd_first_java.specs.Programs.{Program}
-use Rattle.jd_first_oblig.specs.Obligations.{obligation_name, obligation_sequent}
+use Rattle.jd_sequent.specs.Obligations.{PlainTask}
+use Rattle.jd_answer.specs.Sources.{obligation_name, obligation_sequent}
 use Rattle.jd_answer.specs.Reports.{IsReport}
 use Rattle.jd_answer.specs.Answers.{HasProof, IsNoFileAnswer, refused_file, many_steps, IsOutcomeAnswer, no_file, unknown, long_report, replayed, IsProofAnswer, report_limit}
 use Rattle.jd_answer.specs.declared.status.Status.{Status}
@@ -23,7 +23,7 @@ one_outcome names bytes o other a b =
     a.is ∙ ap (outcome names) (one_answer.one most_steps most_levels bytes a.answer b.answer a.answered b.answered) ∙ sym b.is
 
 -- the report of the proof is too long
-pub record IsLong (leads : PlainSequent → PlainStep → List PlainSequent → Type 0) (causes : PlainSequent → PlainStep → ℕ → Type 0) (q : Program) (bytes : List ℕ) : Type 0 where
+pub record IsLong (leads : PlainSequent → PlainStep → List PlainSequent → Type 0) (causes : PlainSequent → PlainStep → ℕ → Type 0) (q : PlainTask) (bytes : List ℕ) : Type 0 where
   pub proof : Option ProofTree
   pub has : HasProof (obligation_name q) bytes proof
   pub status : Status
@@ -40,7 +40,7 @@ no_other : (file : List ℕ) (a : script.Answer) (status : Status) (text : List 
 no_other file a status text is not_script not_limit =
     elim (no_file_status file a status text is) [ inl s ↦ not_script s | inr l ↦ not_limit l.0 ]
 
-module _ (leads : PlainSequent → PlainStep → List PlainSequent → Type 0) (causes : PlainSequent → PlainStep → ℕ → Type 0) (q : Program) (file bytes : List ℕ) where
+module _ (leads : PlainSequent → PlainStep → List PlainSequent → Type 0) (causes : PlainSequent → PlainStep → ℕ → Type 0) (q : PlainTask) (file bytes : List ℕ) where
   read_as : (o : Outcome) (p : Option ProofTree) → IsOutcome (obligation_name q ∷ []) (tokens_of bytes) o → o ≡ Trees (p ∷ []) → HasProof (obligation_name q) bytes p
   read_as o p read is = subst (IsOutcome (obligation_name q ∷ []) (tokens_of bytes)) is read
 

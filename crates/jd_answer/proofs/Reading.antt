@@ -6,7 +6,7 @@ use Rattle.jd_base.specs.Faults.{Rose, SameContents, SameCounts, StaySteady}
 use Rattle.jd_model.specs.Sequents.{PlainSequent}
 use Rattle.jd_sequent.specs.Trees.{PlainStep}
 use Rattle.jd_files.specs.Files.{files_limit}
-use Rattle.jd_first_java.specs.Programs.{Program}
+use Rattle.jd_sequent.specs.Obligations.{PlainTask}
 use Rattle.jd_answer.specs.Words.{replay_words}
 use Rattle.jd_answer.specs.Reports.{proof_limit_text, file_limit_text, files_limit_text}
 use Rattle.jd_answer.specs.Answers.{proof_limit, IsProofRead, AreRead, AreTold, HaveBytes, HaveLongFile, long, behind, IsAnswer, many_files, long_proof, long_file, IsTold}
@@ -33,7 +33,7 @@ module _ (contents later : List ℕ → Option (List ℕ)) (same : SameContents 
 
 -- ---- the files that the words name
 
-module _ (leads : Program → PlainSequent → PlainStep → List PlainSequent → Type 0) (causes : Program → PlainSequent → PlainStep → ℕ → Type 0) (words : List (List ℕ)) (contents : List ℕ → Option (List ℕ)) (proof : List ℕ) (names : List (List ℕ)) (are : replay_words words ≡ Some (proof, names)) where
+module _ (leads : PlainTask → PlainSequent → PlainStep → List PlainSequent → Type 0) (causes : PlainTask → PlainSequent → PlainStep → ℕ → Type 0) (words : List (List ℕ)) (contents : List ℕ → Option (List ℕ)) (proof : List ℕ) (names : List (List ℕ)) (are : replay_words words ≡ Some (proof, names)) where
   -- there are too many
   pub many_named : (text : List ℕ) → files_limit < length names → text ≡ files_limit_text → IsAnswer leads causes words contents Limit text
   many_named text many is = rw is (many_files proof names are many)

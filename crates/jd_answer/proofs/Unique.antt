@@ -1,21 +1,18 @@
 -- The answer is determined: its status and its text, up to the place of a Java file that is none, or that nests too deep.
 use Rattle.std.proofs.Common.{◌≡◌, ◌<◌, ◌≤◌, ℕ, List, [], ◌∷◌, length, Option, Some, None, ap, sym, refl, subst, ◌∙◌, arith}
-use Rattle.std.specs.List.{All}
-use Rattle.std.proofs.lemmas.List.Elements.{All-cons, All-head, All-nil}
 use Rattle.std.proofs.lemmas.Option.{none-some, same_Some}
 use Rattle.jd_model.specs.Sequents.{PlainSequent}
 use Rattle.jd_sequent.specs.Trees.{PlainStep, ProofTree, steps_in}
 use Rattle.jd_sequent.specs.Derives.{Derives}
 use Rattle.jd_replay.specs.FirstBad.{FirstBad}
 use Rattle.jd_replay.proofs.OneFirstBad.{bad_derives_nothing, one_first_bad}
-use Rattle.jd_first_java.specs.Programs.{Program}
-use Rattle.jd_first_java.specs.Reads as java
-use Rattle.jd_first_java.proofs.Meaning.{one_meaning}
+use Rattle.jd_sequent.specs.Obligations.{PlainTask}
+use Rattle.jd_first_tasks.specs.Laws.{OneFirstTask}
 use Rattle.jd_scripts.specs.Answers as script
 use Rattle.jd_proofs.specs.Outcomes.{Outcome}
-use Rattle.jd_first_oblig.specs.Obligations.{obligation_name, obligation_sequent}
+use Rattle.jd_answer.specs.Sources.{obligation_name, obligation_sequent}
 use Rattle.jd_answer.specs.Words.{replay_words}
-use Rattle.jd_files.specs.Files.{file_limit, files_limit}
+use Rattle.jd_files.specs.Files.{files_limit}
 use Rattle.jd_files.specs.Laws.{OneFilesRefusal}
 use Rattle.jd_refusals.specs.Laws.{OneTokenRefusal}
 use Rattle.jd_answer.specs.FileAnswers.{IsRefusal}
@@ -26,8 +23,7 @@ use Rattle.jd_answer.specs.declared.status.Status.{Status}
 use Rattle.jd_answer.specs.declared.status.Status.TheVariants.{Usage, Limit}
 use Rattle.jd_answer.proofs.Derivations.{OneWay, HasNoCause, one_derivation}
 use Rattle.jd_answer.proofs.Files.{none_long, one_list}
-use Rattle.jd_answer.proofs.FileAnswers.{no_program, one_refusal}
-use Rattle.jd_answer.proofs.Lengths.{length-report, length-name}
+use Rattle.jd_answer.proofs.FileAnswers.{no_program, one_refusal, one_task}
 use Rattle.jd_answer.proofs.ProofAnswers.{one_outcome}
 
 -- ---- one report
@@ -77,19 +73,18 @@ one_report leads causes way free name goal s status other text another (broken t
 pub same_by : (status other : Status) (text another : List ℕ) → (status ≡ other) × (text ≡ another) → SameAnswer status text other another
 same_by status other text another both = rw (both.0, both.1) (equal other another)
 
-module _ (leads : PlainSequent → PlainStep → List PlainSequent → Type 0) (causes : PlainSequent → PlainStep → ℕ → Type 0) (way : OneWay leads) (free : HasNoCause leads causes) (file : List ℕ) (q : Program) (of_file : java.Reads file q) (small : length file ≤ file_limit) (proof bytes : List ℕ) where
-  no_long_report : (s : Option ProofTree) (status : Status) (text : List ℕ) → IsReport leads causes (obligation_name q) (obligation_sequent q) s status text → report_limit < length text → ⊥
-  no_long_report s status text is past =
-      let few = length-report leads causes (obligation_name q) (obligation_sequent q) s status text is in
-      let short = length-name file q of_file in
-      omega (arith, few, short, small)
-
+module _ (leads : PlainSequent → PlainStep → List PlainSequent → Type 0) (causes : PlainSequent → PlainStep → ℕ → Type 0) (way : OneWay leads) (free : HasNoCause leads causes) (q : PlainTask) (proof bytes : List ℕ) where
   one_no_file : (a : script.Answer) (status other : Status) (text another : List ℕ) → IsNoFileAnswer proof a status text → IsNoFileAnswer proof a other another → (status ≡ other) × (text ≡ another)
   one_no_file a status other text another (refused_file kind is) (refused_file kind' is') =
       (refl, ap (script_refusal_text proof) (same_Some kind kind' (sym is ∙ is')))
   one_no_file a status other text another (refused_file kind is) (many_steps many) = absurd (none-some kind (sym (ap script_kind many) ∙ is))
   one_no_file a status other text another (many_steps many) (refused_file kind is) = absurd (none-some kind (sym (ap script_kind many) ∙ is))
   one_no_file a status other text another (many_steps many) (many_steps many') = (refl, refl)
+
+  -- a report is too long, or within the limit
+  not_long : (s : Option ProofTree) (text another : List ℕ) (status other : Status) → IsReport leads causes (obligation_name q) (obligation_sequent q) s status text → report_limit < length text → IsReport leads causes (obligation_name q) (obligation_sequent q) s other another → length another ≤ report_limit → ⊥
+  not_long s text another status other report past report' within =
+      omega (arith, ap length (one_report leads causes way free (obligation_name q) (obligation_sequent q) s status other text another report report').1, past, within)
 
   one_outcome_answer : (o : Outcome) (status other : Status) (text another : List ℕ) → IsOutcomeAnswer leads causes q proof o status text → IsOutcomeAnswer leads causes q proof o other another → (status ≡ other) × (text ≡ another)
   one_outcome_answer o status other text another (no_file a _ _ of it) (no_file a' _ _ of' it') =
@@ -104,10 +99,17 @@ module _ (leads : PlainSequent → PlainStep → List PlainSequent → Type 0) (
       (refl, ap (λ n. script_refusal_text proof (unknown_kind n)) same)
   one_outcome_answer o status other text another (unknown name of) (long_report s status' text' of' report past) = absurd cc
   one_outcome_answer o status other text another (unknown name of) (replayed s _ _ of' report within) = absurd cc
-  one_outcome_answer o status other text another (long_report s status' text' of report past) again = absurd (no_long_report s status' text' report past)
+  one_outcome_answer o status other text another (long_report s status' text' of report past) (no_file a _ _ of' it) = absurd cc
+  one_outcome_answer o status other text another (long_report s status' text' of report past) (unknown name of') = absurd cc
+  one_outcome_answer o status other text another (long_report s status' text' of report past) (long_report s' status'' text'' of' report' past') = (refl, refl)
+  one_outcome_answer o status other text another (long_report s status' text' of report past) (replayed s' _ _ of' report' within) =
+      let same : s' ≡ s = cc in
+      absurd (not_long s text' another status' other report past (subst (λ t. IsReport leads causes (obligation_name q) (obligation_sequent q) t other another) same report') within)
   one_outcome_answer o status other text another (replayed s _ _ of report within) (no_file a _ _ of' it) = absurd cc
   one_outcome_answer o status other text another (replayed s _ _ of report within) (unknown name of') = absurd cc
-  one_outcome_answer o status other text another (replayed s _ _ of report within) (long_report s' status' text' of' report' past) = absurd (no_long_report s' status' text' report' past)
+  one_outcome_answer o status other text another (replayed s _ _ of report within) (long_report s' status' text' of' report' past) =
+      let same : s ≡ s' = cc in
+      absurd (not_long s' text' text status' status report' past (subst (λ t. IsReport leads causes (obligation_name q) (obligation_sequent q) t status text) same report) within)
   one_outcome_answer o status other text another (replayed s _ _ of report within) (replayed s' _ _ of' report' within') =
       let same : s' ≡ s = cc in
       one_report leads causes way free (obligation_name q) (obligation_sequent q) s status other text another report (subst (λ t. IsReport leads causes (obligation_name q) (obligation_sequent q) t other another) same report')
@@ -119,8 +121,8 @@ module _ (leads : PlainSequent → PlainStep → List PlainSequent → Type 0) (
 
 -- ---- one answer for words that name files
 
-abbrev OneProgramAnswer : (Program → PlainSequent → PlainStep → List PlainSequent → Type 0) → (Program → PlainSequent → PlainStep → ℕ → Type 0) → Type 0
-OneProgramAnswer leads causes = ((q : Program) → OneWay (leads q)) × ((q : Program) → HasNoCause (leads q) (causes q))
+abbrev OneProgramAnswer : (PlainTask → PlainSequent → PlainStep → List PlainSequent → Type 0) → (PlainTask → PlainSequent → PlainStep → ℕ → Type 0) → Type 0
+OneProgramAnswer leads causes = ((q : PlainTask) → OneWay (leads q)) × ((q : PlainTask) → HasNoCause (leads q) (causes q))
 
 same_words : (words : List (List ℕ)) (p p' : List ℕ) (ns ns' : List (List ℕ)) → replay_words words ≡ Some (p, ns) → replay_words words ≡ Some (p', ns') → (p ≡ p') × (ns ≡ ns')
 same_words words p p' ns ns' one other =
@@ -131,21 +133,18 @@ same_bytes : (contents : List ℕ → Option (List ℕ)) (name name' bytes bytes
 same_bytes contents name name' bytes bytes' same one other = same_Some bytes bytes' (sym one ∙ ap contents same ∙ other)
 
 -- what is said of files that are read
-pub data IsJudgedAs (leads : Program → PlainSequent → PlainStep → List PlainSequent → Type 0) (causes : Program → PlainSequent → PlainStep → ℕ → Type 0) (proof bytes : List ℕ) (names files : List (List ℕ)) : Status → List ℕ → Type 0 where
+pub data IsJudgedAs (leads : PlainTask → PlainSequent → PlainStep → List PlainSequent → Type 0) (causes : PlainTask → PlainSequent → PlainStep → ℕ → Type 0) (proof bytes : List ℕ) (names files : List (List ℕ)) : Status → List ℕ → Type 0 where
   not_understood : (status : Status) (text : List ℕ) → IsRefusal names files status text → IsJudgedAs leads causes proof bytes names files status text
-  answered : (q : Program) (status : Status) (text : List ℕ) → AreProgram files q → IsProofAnswer (leads q) (causes q) q proof bytes status text → IsJudgedAs leads causes proof bytes names files status text
+  answered : (q : PlainTask) (status : Status) (text : List ℕ) → AreProgram files q → IsProofAnswer (leads q) (causes q) q proof bytes status text → IsJudgedAs leads causes proof bytes names files status text
 
-module _ (leads : Program → PlainSequent → PlainStep → List PlainSequent → Type 0) (causes : Program → PlainSequent → PlainStep → ℕ → Type 0) (one : OneProgramAnswer leads causes) (laws : OneFilesRefusal) (tokens : OneTokenRefusal) where
-  one_judgement : (proof bytes : List ℕ) (names files : List (List ℕ)) (status other : Status) (text another : List ℕ) → All (λ f. length f ≤ file_limit) files → IsJudgedAs leads causes proof bytes names files status text → IsJudgedAs leads causes proof bytes names files other another → SameAnswer status text other another
-  one_judgement proof bytes names files status other text another small (not_understood _ _ refusal) (not_understood _ _ refusal') = one_refusal laws tokens names files status other text another refusal refusal'
-  one_judgement proof bytes names files status other text another small (not_understood _ _ refusal) (answered q _ _ program answer) = absurd (no_program laws tokens names files status text q refusal program)
-  one_judgement proof bytes names files status other text another small (answered q _ _ program answer) (not_understood _ _ refusal) = absurd (no_program laws tokens names files other another q refusal program)
-  one_judgement proof bytes names files status other text another small (answered q _ _ program answer) (answered q' _ _ program' answer') =
-      let files_same : program.file ∷ [] ≡ program'.file ∷ [] = sym program.one ∙ program'.one in
-      let same : program'.file ≡ program.file = let back = sym files_same in cc in
-      let programs : q' ≡ q = one_meaning program.file q' q (subst (λ b. java.Reads b q') same program'.reads) program.reads in
-      let within = All-head (λ f. length f ≤ file_limit) program.file [] (subst (All (λ f. length f ≤ file_limit)) program.one small) in
-      one_proof_answer (leads q) (causes q) (one.0 q) (one.1 q) program.file q program.reads within proof bytes status other text another answer
+module _ (leads : PlainTask → PlainSequent → PlainStep → List PlainSequent → Type 0) (causes : PlainTask → PlainSequent → PlainStep → ℕ → Type 0) (one : OneProgramAnswer leads causes) (laws : OneFilesRefusal) (tokens : OneTokenRefusal) (tasks : OneFirstTask) where
+  one_judgement : (proof bytes : List ℕ) (names files : List (List ℕ)) (status other : Status) (text another : List ℕ) → IsJudgedAs leads causes proof bytes names files status text → IsJudgedAs leads causes proof bytes names files other another → SameAnswer status text other another
+  one_judgement proof bytes names files status other text another (not_understood _ _ refusal) (not_understood _ _ refusal') = one_refusal laws tokens tasks names files status other text another refusal refusal'
+  one_judgement proof bytes names files status other text another (not_understood _ _ refusal) (answered q _ _ program answer) = absurd (no_program laws tokens tasks names files status text q refusal program)
+  one_judgement proof bytes names files status other text another (answered q _ _ program answer) (not_understood _ _ refusal) = absurd (no_program laws tokens tasks names files other another q refusal program)
+  one_judgement proof bytes names files status other text another (answered q _ _ program answer) (answered q' _ _ program' answer') =
+      let programs : q' ≡ q = one_task laws tasks files program'.resolved program.resolved q' q program'.task program.task in
+      one_proof_answer (leads q) (causes q) (one.0 q) (one.1 q) q proof bytes status other text another answer
       (subst (λ p. IsProofAnswer (leads p) (causes p) p proof bytes other another) programs answer')
 
   module _ (words : List (List ℕ)) (contents : List ℕ → Option (List ℕ)) where
@@ -171,15 +170,9 @@ module _ (leads : Program → PlainSequent → PlainStep → List PlainSequent �
         let proofs = same_bytes contents p' p pb' pb (sym same.0) read'.proof_read.told read.proof_read.told in
         answered q status text (subst (λ l. AreProgram l q) files program) (subst (λ n. IsProofAnswer (leads q) (causes q) q n pb status text) (sym same.0) (subst (λ b. IsProofAnswer (leads q) (causes q) q p' b status text) proofs answer))
 
-    all_within : (ns fs : List (List ℕ)) → HaveBytes contents ns fs → All (λ f. length f ≤ file_limit) fs
-    all_within [] [] have = All-nil (λ f. length f ≤ file_limit)
-    all_within [] (f ∷ fs) have = absurd have
-    all_within (n ∷ ns) [] have = absurd have
-    all_within (n ∷ ns) (f ∷ fs) have = All-cons (λ f. length f ≤ file_limit) f fs have.1 (all_within ns fs have.2)
-
     one_answer_read : (p pb : List ℕ) (ns fs : List (List ℕ)) (status other : Status) (text another : List ℕ) → AreRead words contents p ns pb fs → IsAnswer leads causes words contents status text → IsAnswer leads causes words contents other another → SameAnswer status text other another
     one_answer_read p pb ns fs status other text another read answer again =
-        one_judgement p pb ns fs status other text another (all_within ns fs read.files_told) (judged_as p pb ns fs status text read answer) (judged_as p pb ns fs other another read again)
+        one_judgement p pb ns fs status other text another (judged_as p pb ns fs status text read answer) (judged_as p pb ns fs other another read again)
 
     -- ---- words that are no command, too many files, and files that are too long
 

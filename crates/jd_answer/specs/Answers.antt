@@ -7,14 +7,11 @@ use Rattle.jd_sequent.specs.Trees.{PlainStep, ProofTree}
 use Rattle.jd_sequent.specs.Obligations.{PlainTask}
 use Rattle.jd_sequent.specs.Rules.{LeadsWithinLimits}
 use Rattle.jd_files.specs.Files.{file_limit, files_limit}
-use Rattle.jd_first_java.specs.Programs.{Program}
 use Rattle.jd_scripts.specs.Answers as script
 use Rattle.jd_proofs.specs.Outcomes.{Outcome, Trees, NoFile, UnknownObligation, IsOutcome}
-use Rattle.jd_first_oblig.specs.Obligations.{obligation_name, obligation_sequent}
-use Rattle.jd_first_meaning.specs.ClosedPrograms.{task_of}
 use Rattle.jd_answer.specs.Words.{replay_words}
 use Rattle.jd_answer.specs.FileAnswers.{IsRefusal}
-use Rattle.jd_answer.specs.Sources.{AreProgram}
+use Rattle.jd_answer.specs.Sources.{AreProgram, IsTaskOfFiles, obligation_name, obligation_sequent}
 use Rattle.jd_answer.specs.Reports.{usage_text, refusal_text, script_kind, unknown_kind, script_refusal_text, files_limit_text, proof_limit_text, steps_limit_text, file_limit_text, report_limit_text, IsReport}
 use Rattle.jd_answer.specs.declared.status.Status.{Status}
 use Rattle.jd_answer.specs.declared.status.Status.TheVariants.{Usage, RefusedSource, RefusedScript, Limit}
@@ -29,15 +26,11 @@ report_limit = 67108864
 -- the rules take the sequent of each program's obligation
 abbrev pub AcceptsObligations : (PlainTask → PlainSequent → Type 0) → Type 0
 AcceptsObligations accepts =
-    (q : Program) → accepts (task_of q) (obligation_sequent q)
+    (q : PlainTask) → IsTaskOfFiles q → accepts q (obligation_sequent q)
 
 -- a step of a program's obligation leads to premises where it is an instance of a rule and they are within the limits
-abbrev pub leads_of : (PlainTask → PlainSequent → PlainStep → List PlainSequent → Type 0) → Program → PlainSequent → PlainStep → List PlainSequent → Type 0
-leads_of instance q = LeadsWithinLimits (instance (task_of q))
-
--- why a step of a program's obligation is refused, by the cause's number
-abbrev pub causes_of : (PlainTask → PlainSequent → PlainStep → ℕ → Type 0) → Program → PlainSequent → PlainStep → ℕ → Type 0
-causes_of cause q = cause (task_of q)
+abbrev pub leads_of : (PlainTask → PlainSequent → PlainStep → List PlainSequent → Type 0) → PlainTask → PlainSequent → PlainStep → List PlainSequent → Type 0
+leads_of instance q = LeadsWithinLimits (instance q)
 
 -- these are the bytes of the files, each within the limit
 abbrev pub HaveBytes : (List ℕ → Option (List ℕ)) → List (List ℕ) → List (List ℕ) → Type 0
@@ -74,26 +67,26 @@ pub data IsNoFileAnswer (file : List ℕ) (a : script.Answer) : Status → List 
 
 -- the status and the text for what the proof file of this name is for a program's obligation; a step of that obligation leads
 -- from a sequent to its premises, or has causes
-pub data IsOutcomeAnswer (leads : PlainSequent → PlainStep → List PlainSequent → Type 0) (causes : PlainSequent → PlainStep → ℕ → Type 0) (q : Program) (file : List ℕ) (o : Outcome) : Status → List ℕ → Type 0 where
+pub data IsOutcomeAnswer (leads : PlainSequent → PlainStep → List PlainSequent → Type 0) (causes : PlainSequent → PlainStep → ℕ → Type 0) (q : PlainTask) (file : List ℕ) (o : Outcome) : Status → List ℕ → Type 0 where
   no_file : (a : script.Answer) (status : Status) (text : List ℕ) → o ≡ NoFile a → IsNoFileAnswer file a status text → IsOutcomeAnswer leads causes q file o status text
   unknown : (name : List ℕ) → o ≡ UnknownObligation name → IsOutcomeAnswer leads causes q file o RefusedScript (script_refusal_text file (unknown_kind name))
   long_report : (p : Option ProofTree) (status : Status) (text : List ℕ) → o ≡ Trees (p ∷ []) → IsReport leads causes (obligation_name q) (obligation_sequent q) p status text → report_limit < length text → IsOutcomeAnswer leads causes q file o Limit report_limit_text
   replayed : (p : Option ProofTree) (status : Status) (text : List ℕ) → o ≡ Trees (p ∷ []) → IsReport leads causes (obligation_name q) (obligation_sequent q) p status text → length text ≤ report_limit → IsOutcomeAnswer leads causes q file o status text
 
 -- the status and the text for a program and the bytes of the proof file of this name
-pub record IsProofAnswer (leads : PlainSequent → PlainStep → List PlainSequent → Type 0) (causes : PlainSequent → PlainStep → ℕ → Type 0) (q : Program) (file bytes : List ℕ) (status : Status) (text : List ℕ) : Type 0 where
+pub record IsProofAnswer (leads : PlainSequent → PlainStep → List PlainSequent → Type 0) (causes : PlainSequent → PlainStep → ℕ → Type 0) (q : PlainTask) (file bytes : List ℕ) (status : Status) (text : List ℕ) : Type 0 where
   pub outcome : Outcome
   pub read : IsOutcome (obligation_name q ∷ []) (tokens_of bytes) outcome
   pub answer : IsOutcomeAnswer leads causes q file outcome status text
 
 -- the status and the text that are answered
-pub data IsAnswer (leads : Program → PlainSequent → PlainStep → List PlainSequent → Type 0) (causes : Program → PlainSequent → PlainStep → ℕ → Type 0) (words : List (List ℕ)) (contents : List ℕ → Option (List ℕ)) : Status → List ℕ → Type 0 where
+pub data IsAnswer (leads : PlainTask → PlainSequent → PlainStep → List PlainSequent → Type 0) (causes : PlainTask → PlainSequent → PlainStep → ℕ → Type 0) (words : List (List ℕ)) (contents : List ℕ → Option (List ℕ)) : Status → List ℕ → Type 0 where
   usage : replay_words words ≡ None → IsAnswer leads causes words contents Usage usage_text
   many_files : (proof : List ℕ) (names : List (List ℕ)) → replay_words words ≡ Some (proof, names) → files_limit < length names → IsAnswer leads causes words contents Limit files_limit_text
   long_proof : (proof bytes : List ℕ) (names : List (List ℕ)) → replay_words words ≡ Some (proof, names) → length names ≤ files_limit → contents proof ≡ Some bytes → proof_limit < length bytes → IsAnswer leads causes words contents Limit proof_limit_text
   long_file : (proof bytes : List ℕ) (names : List (List ℕ)) → IsProofRead words contents proof names bytes → HaveLongFile contents names → IsAnswer leads causes words contents Limit file_limit_text
   refused : (proof bytes : List ℕ) (names files : List (List ℕ)) (status : Status) (text : List ℕ) → AreRead words contents proof names bytes files → IsRefusal names files status text → IsAnswer leads causes words contents status text
-  judged : (proof bytes : List ℕ) (names files : List (List ℕ)) (q : Program) (status : Status) (text : List ℕ) → AreRead words contents proof names bytes files → AreProgram files q → IsProofAnswer (leads q) (causes q) q proof bytes status text → IsAnswer leads causes words contents status text
+  judged : (proof bytes : List ℕ) (names files : List (List ℕ)) (q : PlainTask) (status : Status) (text : List ℕ) → AreRead words contents proof names bytes files → AreProgram files q → IsProofAnswer (leads q) (causes q) q proof bytes status text → IsAnswer leads causes words contents status text
 
 -- the library tells what is in the Java files, up to the first that is too long
 abbrev pub AreTold : (List ℕ → Option (List ℕ)) → List (List ℕ) → Type 0

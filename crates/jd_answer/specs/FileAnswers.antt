@@ -8,9 +8,11 @@ use Rattle.jd_jclasses.specs.Refusals.{AreClasses}
 use Rattle.jd_files.specs.Files.{AreTrees}
 use Rattle.jd_files.specs.Refusals.{AreRefused, PlainRefusal, OfFile, OfClasses}
 use Rattle.jd_refusals.specs.Refusals.{IsFirst, PlainRefused}
-use Rattle.jd_first_java.specs.Programs.{Program}
-use Rattle.jd_answer.specs.Reports.{class_kind, class_limit_text, method_limit_text, placed_refusal_text, refusal_text, token_kind, unbuilt_text}
-use Rattle.jd_answer.specs.Sources.{AreProgram, AreProgramFiles}
+use Rattle.jd_sequent.specs.Limits.{IsWithinLimits}
+use Rattle.jd_sequent.specs.Obligations.{PlainTask}
+use Rattle.jd_first_tasks.specs.Tasks.{IsFirstTask}
+use Rattle.jd_answer.specs.Reports.{class_kind, class_limit_text, formula_limit_text, method_limit_text, placed_refusal_text, refusal_text, token_kind, unbuilt_text}
+use Rattle.jd_answer.specs.Sources.{AreProgramFiles}
 use Rattle.jd_answer.specs.declared.status.Status.{Status}
 use Rattle.jd_answer.specs.declared.status.Status.TheVariants.{RefusedSource, Limit}
 
@@ -22,8 +24,9 @@ pub data Tells (names : List (List ℕ)) : PlainRefusal → Status → List ℕ 
   of_many_methods : Tells names (OfClasses classes.ManyMethods) Limit method_limit_text
 
 -- the status and the text for files of these names: they are no program's, or a token of a body or of JML is refused, or
--- they are of a form that has no obligation yet, and then the first is named
+-- they are of a form that has no obligation yet, and then the first is named, or the obligation's sequent is past a limit
 pub data IsRefusal (names files : List (List ℕ)) : Status → List ℕ → Type 0 where
   of_files : (r : PlainRefusal) (status : Status) (text : List ℕ) → AreRefused files r → Tells names r status text → IsRefusal names files status text
   of_token : (units : List JavaUnit) (r : PlainRefused) (name : List ℕ) → AreTrees files units → AreClasses units → IsFirst units (Some r) → slice_get names r.file ≡ Some name → IsRefusal names files RefusedSource (placed_refusal_text name (token_kind r.why) r.at)
-  of_form : (name : List ℕ) (others : List (List ℕ)) → names ≡ name ∷ others → AreProgramFiles files → ((q : Program) → AreProgram files q → ⊥) → IsRefusal names files RefusedSource (unbuilt_text name)
+  of_form : (name : List ℕ) (others : List (List ℕ)) → names ≡ name ∷ others → (p : AreProgramFiles files) → ((q : PlainTask) → IsFirstTask p.units q → ⊥) → IsRefusal names files RefusedSource (unbuilt_text name)
+  of_size : (p : AreProgramFiles files) (q : PlainTask) → IsFirstTask p.units q → (IsWithinLimits q.obligation.sequent → ⊥) → IsRefusal names files Limit formula_limit_text

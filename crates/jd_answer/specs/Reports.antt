@@ -133,6 +133,10 @@ steps_limit_text = line (codes "limit nodes 500000")
 abbrev pub file_limit_text : List ℕ
 file_limit_text = line (codes "limit file-bytes 1048576")
 
+-- of the formulas of an obligation's sequent, and of the sequent
+abbrev pub formula_limit_text : List ℕ
+formula_limit_text = line (codes "limit formula 100000")
+
 abbrev pub report_limit_text : List ℕ
 report_limit_text = line (codes "limit report 67108864")
 

@@ -6,17 +6,17 @@ ghost use Rattle.jd_sequent.specs.Trees.{tree_of};
 ghost use Rattle.jd_sequent.specs.Steps.{node_view};
 ghost use Rattle.jd_replay.specs.Verdicts.{IsVerdict};
 ghost use Rattle.jd_files.specs.Files.{HaveTables, file_limit, files_limit};
-ghost use Rattle.jd_first_java.specs.Programs.{IsProgram};
-ghost use Rattle.jd_first_java.specs.Reads.{program_view};
+ghost use Rattle.jd_made_tasks.specs.Answers.{made_view};
 ghost use Rattle.jd_proofs.specs.Answers.{tree_view};
-ghost use Rattle.jd_first_oblig.specs.Obligations.{obligation_name, obligation_sequent};
+ghost use Rattle.jd_refusals.specs.Resolving.{AreResolved};
 ghost use Rattle.jd_answer.specs.Words.{word_texts, replay_words};
 ghost use Rattle.jd_answer.specs.Reports.{IsReport, report_limit_text};
-ghost use Rattle.jd_answer.specs.Answers.{AcceptsObligations, leads_of, causes_of, proof_limit, report_limit, AreRead, AreTold, HaveBytes, HaveLongFile, IsAnswer, IsProofAnswer, SameAnswer, IsTold};
+ghost use Rattle.jd_answer.specs.Answers.{AcceptsObligations, leads_of, proof_limit, report_limit, AreRead, AreTold, HaveBytes, HaveLongFile, IsAnswer, IsProofAnswer, SameAnswer, IsTold};
 ghost use Rattle.jd_answer.specs.Statuses.{IsJudged, IsWritten};
 ghost use Rattle.jd_answer.specs.FileAnswers.{IsRefusal};
 ghost use Rattle.jd_answer.specs.ReadFaults.{AreSteady, IsReadFault, HasMoreFaults, HasRisen, NamesSteady};
-ghost use Rattle.jd_answer.specs.Understanding.{AreResolved, IsNoProgram, IsOneProgram, IsUnderstood};
+ghost use Rattle.jd_answer.specs.Sources.{AreProgram, IsTaskOfFiles, obligation_name, obligation_sequent};
+ghost use Rattle.jd_answer.specs.Understanding.{IsUnderstood};
 ghost use Rattle.jd_answer.specs.declared.status.Status.{Status};
 ghost use Rattle.jd_answer.specs.declared.answer.Stop.TheVariants.{NoMemory as OutOfMemory};
 
@@ -24,15 +24,18 @@ use crate::java::refused;
 use crate::report::{missing, status_of, text_of};
 use crate::script::{proof_of, unread};
 use crate::status::Status;
-use crate::text::{file_too_long, proof_too_long, report_too_long, too_many_files, unbuilt, usage};
+use crate::text::{
+    file_too_long, formula_too_large, proof_too_long, report_too_long, too_many_files, unbuilt,
+    usage,
+};
 use crate::token::refused_token;
 use crate::words::{ReplayFiles, replay_files};
-use jd_base::{Library, NoMemory, ReadRefusal, read_whole};
+use jd_base::{Library, NoMemory, ReadRefusal, copy_bytes, read_whole};
 use jd_classes::Classes;
 use jd_files::{classes_of, one_refusal};
-use jd_first_java::{Program, read_program};
-use jd_first_oblig::{contracts, name_of, obligation};
-use jd_refusals::one_refusal as one_token_refusal;
+use jd_first_tasks::one_first_task;
+use jd_made_tasks::{FirstTask, Made, first_task};
+use jd_refusals::{Resolved, one_refusal as one_token_refusal, resolve};
 use jd_replay::{Verdict, replay};
 use jd_sequent::{RuleSet, ScriptTree, Task};
 use std::alloc::{AllocFailed, Global};
@@ -88,18 +91,16 @@ fn verdict_of<R: RuleSet>(
     alloc: Global,
     rules: &R,
     classes: &Classes,
-    program: &Program,
+    made: &Made,
     tree: &ScriptTree,
 ) -> Result<Verdict, NoMemory>
     requires accepts { AcceptsObligations (R.accepts rules.now) }
-    requires program { IsProgram (program_view program.now) }
+    requires program { IsTaskOfFiles (made_view made.now) }
     ensures { IfOk result
-        (λ verdict. IsVerdict (leads_of (R.instance rules.now) (program_view program.now)) (causes_of (R.cause rules.now) (program_view program.now)) (tree_of (map node_view tree.now.nodes.items)) (obligation_sequent (program_view program.now)) verdict) }
+        (λ verdict. IsVerdict (leads_of (R.instance rules.now) (made_view made.now)) (R.cause rules.now (made_view made.now)) (tree_of (map node_view tree.now.nodes.items)) (obligation_sequent (made_view made.now)) verdict) }
 {
-    let contracts = contracts(alloc, program)?;
-    let obligation = obligation(alloc, program)?;
-    let task = Task::of(classes, &contracts, &obligation);
-    replay(alloc, rules, &task, &obligation.sequent, tree)
+    let task = Task::of(classes, &made.contracts, &made.obligation);
+    replay(alloc, rules, &task, &made.obligation.sequent, tree)
 }
 
 // The report of a proof, if there is one, for the obligation of a program.
@@ -107,26 +108,26 @@ fn replayed<R: RuleSet>(
     alloc: Global,
     rules: &R,
     classes: &Classes,
-    program: &Program,
+    made: &Made,
     proof: Option<ScriptTree>,
 ) -> Result<Answer, NoMemory>
     requires accepts { AcceptsObligations (R.accepts rules.now) }
-    requires program { IsProgram (program_view program.now) }
+    requires program { IsTaskOfFiles (made_view made.now) }
     ensures report { IfOk result
-        (λ a. IsReport (leads_of (R.instance rules.now) (program_view program.now)) (causes_of (R.cause rules.now) (program_view program.now)) (obligation_name (program_view program.now)) (obligation_sequent (program_view program.now)) (option_map tree_view proof) a.status a.text.items) }
+        (λ a. IsReport (leads_of (R.instance rules.now) (made_view made.now)) (R.cause rules.now (made_view made.now)) (obligation_name (made_view made.now)) (obligation_sequent (made_view made.now)) (option_map tree_view proof) a.status a.text.items) }
     ensures status { IfOk result (λ a. IsJudged a.status) }
 {
-    let name = name_of(alloc, program)?;
+    let name = made.obligation.name.as_slice();
     match proof {
         None => Ok(Answer {
             status: Status::NotAccepted,
-            text: missing(alloc, &name)?,
+            text: missing(alloc, name)?,
         }),
         Some(tree) => {
-            let verdict = verdict_of(alloc, rules, classes, program, &tree)?;
+            let verdict = verdict_of(alloc, rules, classes, made, &tree)?;
             Ok(Answer {
                 status: status_of(&verdict),
-                text: text_of(alloc, &name, &verdict)?,
+                text: text_of(alloc, name, &verdict)?,
             })
         }
     }
@@ -149,57 +150,52 @@ fn within_limit(alloc: Global, answer: Answer) -> Result<Answer, NoMemory>
     Ok(answer)
 }
 
-// The program of the first form that the files are, if they are one.
-fn program_of(alloc: Global, files: &[Vec<u8>]) -> Result<Option<Program>, NoMemory>
-    ensures { IfOk result (λ r. MatchOption r (IsNoProgram (map (λ f. f.items) files.now))
-        (λ q. IsOneProgram (map (λ f. f.items) files.now) (program_view q))) }
-{
-    match files {
-        [file] => read_program(alloc, file),
-        _ => Ok(None),
-    }
-}
-
 /// What the Java files are.
 #[derive(Drop)]
 pub enum Understood {
-    /// A program of the first form, with the tables of its classes.
-    Program(Program, Classes),
+    /// A program with an obligation: its task, with the tables of its classes.
+    Program(Made, Classes),
     /// None: the answer that tells why.
     Refused(Answer),
 }
 
-// The tables, where no token of a body or of JML is refused; else the answer.
-fn resolved(
+// The task of the program that the files of these names are, or the answer that tells why there is none.
+fn task_of(
     alloc: Global,
     names: &[String],
-    classes: Classes,
-) -> Result<Result<Classes, Answer>, NoMemory>
-    requires { (files : List (List ℕ)) × HaveTables files classes × (length files ≡ length names.now) }
-    ensures { (files : List (List ℕ)) → HaveTables files classes → IfOk result (λ r. MatchResult r (AreResolved files)
-        (λ a. IsRefusal (word_texts names.now) files a.status a.text.items)) }
+    classes: &Classes,
+    resolved: &Resolved,
+) -> Result<Result<Made, Answer>, NoMemory>
+    requires some { 0 < length names.now }
+    requires tables { (files : List (List ℕ)) × (have : HaveTables files classes.now) × (length files ≡ length names.now) × AreResolved have.units resolved.now }
+    ensures { (files : List (List ℕ)) (have : HaveTables files classes.now) → length files ≡ length names.now → AreResolved have.units resolved.now
+        → IfOk result (λ r. MatchResult r (λ m. AreProgram files (made_view m)) (λ a. IsRefusal (word_texts names.now) files a.status a.text.items)) }
 {
-    match refused_token(alloc, names, &classes)? {
-        None => Ok(Ok(classes)),
-        Some(answer) => Ok(Err(answer)),
+    match first_task(alloc, names.len(), classes, resolved)? {
+        FirstTask::Task(made) => Ok(Ok(made)),
+        FirstTask::OtherForm => Ok(Err(Answer {
+            status: Status::RefusedSource,
+            text: unbuilt(alloc, names[0].as_bytes())?,
+        })),
+        FirstTask::TooLarge => Ok(Err(Answer {
+            status: Status::Limit,
+            text: formula_too_large(alloc)?,
+        })),
     }
 }
 
-// The tables of the classes of Java files of these names; the answer where they are no program's.
-fn tables_of(
-    alloc: Global,
-    names: &[String],
-    files: &[Vec<u8>],
-) -> Result<Result<Classes, Answer>, NoMemory>
-    requires few { length names.now ≤ files_limit }
-    requires each { length names.now ≡ length files.now }
-    requires within { All (λ f. length f.items ≤ file_limit) files.now }
-    ensures { IfOk result (λ r. MatchResult r (AreResolved (map (λ f. f.items) files.now))
-        (λ a. IsRefusal (word_texts names.now) (map (λ f. f.items) files.now) a.status a.text.items)) }
+// What the files of these names are, whose classes have these tables.
+fn resolved(alloc: Global, names: &[String], classes: Classes) -> Result<Understood, NoMemory>
+    requires some { 0 < length names.now }
+    requires tables { (files : List (List ℕ)) × HaveTables files classes × (length files ≡ length names.now) }
+    ensures { (files : List (List ℕ)) → HaveTables files classes → length files ≡ length names.now → IfOk result (IsUnderstood (word_texts names.now) files) }
 {
-    match classes_of(alloc, files) {
-        Ok(classes) => resolved(alloc, names, classes),
-        Err(refusal) => Ok(Err(refused(alloc, names, refusal)?)),
+    match resolve(alloc, &classes) {
+        Err(refusal) => Ok(Understood::Refused(refused_token(alloc, names, refusal)?)),
+        Ok(resolved) => match task_of(alloc, names, &classes, &resolved)? {
+            Ok(made) => Ok(Understood::Program(made, classes)),
+            Err(answer) => Ok(Understood::Refused(answer)),
+        },
     }
 }
 
@@ -211,16 +207,9 @@ fn understand(alloc: Global, names: &[String], files: &[Vec<u8>]) -> Result<Unde
     requires within { All (λ f. length f.items ≤ file_limit) files.now }
     ensures { IfOk result (IsUnderstood (word_texts names.now) (map (λ f. f.items) files.now)) }
 {
-    let classes = match tables_of(alloc, names, files)? {
-        Err(answer) => return Ok(Understood::Refused(answer)),
-        Ok(classes) => classes,
-    };
-    match program_of(alloc, files)? {
-        Some(program) => Ok(Understood::Program(program, classes)),
-        None => Ok(Understood::Refused(Answer {
-            status: Status::RefusedSource,
-            text: unbuilt(alloc, names[0].as_bytes())?,
-        })),
+    match classes_of(alloc, files) {
+        Ok(classes) => resolved(alloc, names, classes),
+        Err(refusal) => Ok(Understood::Refused(refused(alloc, names, refusal)?)),
     }
 }
 
@@ -229,22 +218,22 @@ fn answer_for<R: RuleSet>(
     alloc: Global,
     rules: &R,
     classes: &Classes,
-    program: &Program,
+    made: &Made,
     name: &[u8],
     proof: &[u8],
 ) -> Result<Answer, NoMemory>
     requires accepts { AcceptsObligations (R.accepts rules.now) }
-    requires program { IsProgram (program_view program.now) }
+    requires program { IsTaskOfFiles (made_view made.now) }
     requires within { length proof.now ≤ proof_limit }
-    ensures answer { IfOk result (λ a. IsProofAnswer (leads_of (R.instance rules.now) (program_view program.now)) (causes_of (R.cause rules.now) (program_view program.now)) (program_view program.now) name.now proof.now a.status a.text.items) }
+    ensures answer { IfOk result (λ a. IsProofAnswer (leads_of (R.instance rules.now) (made_view made.now)) (R.cause rules.now (made_view made.now)) (made_view made.now) name.now proof.now a.status a.text.items) }
     ensures status { IfOk result (λ a. IsJudged a.status) }
 {
-    let obligation = name_of(alloc, program)?;
+    let obligation = copy_bytes(alloc, &made.obligation.name)?;
     let proof = match proof_of(alloc, obligation, proof) {
         Err(refusal) => return unread(alloc, name, &refusal),
         Ok(proof) => proof,
     };
-    let report = replayed(alloc, rules, classes, program, proof)?;
+    let report = replayed(alloc, rules, classes, made, proof)?;
     let answer = within_limit(alloc, report)?;
     Ok(answer)
 }
@@ -265,16 +254,16 @@ fn judged<R: RuleSet>(
     requires proof_within { length proof.now ≤ proof_limit }
     ensures answer { IfOk result (λ a. (words : List (List ℕ)) (contents : List ℕ → Option (List ℕ))
         → AreRead words contents named.now.proof.now (word_texts named.now.files.now) proof.now (map (λ f. f.items) files.now)
-        → IsAnswer (leads_of (R.instance rules.now)) (causes_of (R.cause rules.now)) words contents a.status a.text.items) }
+        → IsAnswer (leads_of (R.instance rules.now)) (R.cause rules.now) words contents a.status a.text.items) }
     ensures status { IfOk result (λ a. IsJudged a.status) }
 {
     match understand(alloc, named.files, files)? {
         Understood::Refused(answer) => Ok(answer),
-        Understood::Program(program, classes) => answer_for(
+        Understood::Program(made, classes) => answer_for(
             alloc,
             rules,
             &classes,
-            &program,
+            &made,
             named.proof.as_bytes(),
             proof,
         ),
@@ -352,7 +341,7 @@ pub fn answer_to<R: RuleSet, L: Library>(
 ) -> Result<Answer, Stop>
     requires accepts { AcceptsObligations (R.accepts rules.now) }
     ensures answer { IfOk result (λ a. IsTold (word_texts words.now) (L.contents library.old)
-        → IsAnswer (leads_of (R.instance rules.now)) (causes_of (R.cause rules.now)) (word_texts words.now) (L.contents library.old) a.status a.text.items) }
+        → IsAnswer (leads_of (R.instance rules.now)) (R.cause rules.now) (word_texts words.now) (L.contents library.old) a.status a.text.items) }
 
     // Words that are no command are answered so, and no others.
     ensures usage { IfOk result (λ a. a.status ≡ Status.Usage → replay_words (word_texts words.now) ≡ None) }
@@ -395,10 +384,11 @@ pub fn answer_to<R: RuleSet, L: Library>(
 /// Words and contents have one answer, up to the place of a Java file that is none, or that nests too deep.
 pub fn one_answer<R: RuleSet>(_rules: &R)
     ensures { (words : List (List ℕ)) (contents : List ℕ → Option (List ℕ)) (status other : Status) (text another : List ℕ)
-        → IsAnswer (leads_of (R.instance _rules.now)) (causes_of (R.cause _rules.now)) words contents status text
-        → IsAnswer (leads_of (R.instance _rules.now)) (causes_of (R.cause _rules.now)) words contents other another
+        → IsAnswer (leads_of (R.instance _rules.now)) (R.cause _rules.now) words contents status text
+        → IsAnswer (leads_of (R.instance _rules.now)) (R.cause _rules.now) words contents other another
         → SameAnswer status text other another }
 {
     one_refusal();
     one_token_refusal();
+    one_first_task();
 }

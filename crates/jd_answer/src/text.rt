@@ -1,6 +1,6 @@
 ghost use Rattle.std.specs.Prelude.{◌≡◌, ◌++◌, IfOk, OnOk};
 ghost use Rattle.std.specs.Fmt.{decimal};
-ghost use Rattle.jd_answer.specs.Reports.{class_limit_text, file_limit_text, files_limit_text, line, method_limit_text, placed_text, proof_limit_text, report_limit_text, steps_limit_text, unbuilt_text, usage_text};
+ghost use Rattle.jd_answer.specs.Reports.{class_limit_text, file_limit_text, files_limit_text, formula_limit_text, line, method_limit_text, placed_text, proof_limit_text, report_limit_text, steps_limit_text, unbuilt_text, usage_text};
 
 use jd_base::{NoMemory, copy_bytes};
 use std::alloc::Global;
@@ -80,6 +80,13 @@ pub fn file_too_long(alloc: Global) -> Result<Vec<u8>, NoMemory>
     ensures { IfOk result (λ v. v.items ≡ file_limit_text) }
 {
     line_of(alloc, b"limit file-bytes 1048576")
+}
+
+/// The line for a formula that is too large.
+pub fn formula_too_large(alloc: Global) -> Result<Vec<u8>, NoMemory>
+    ensures { IfOk result (λ v. v.items ≡ formula_limit_text) }
+{
+    line_of(alloc, b"limit formula 100000")
 }
 
 /// The line for a report that is too long.

@@ -1,9 +1,8 @@
 //! What is told of Java files of which a token of a body or of JML is refused.
 
-ghost use Rattle.std.specs.Prelude.{◌≡◌, ◌<◌, List, None, length, IfOk, MatchOption};
-ghost use Rattle.jd_classes.specs.Tables.{AreTables};
+ghost use Rattle.std.specs.Prelude.{◌≡◌, ◌<◌, List, length, IfOk};
 ghost use Rattle.jd_syntax.specs.JavaTrees.{JavaUnit};
-ghost use Rattle.jd_refusals.specs.Refusals.{IsFirst};
+ghost use Rattle.jd_refusals.specs.Resolving.{IsRefused};
 ghost use Rattle.jd_answer.specs.Refusing.{TellsPlace, TellsToken};
 ghost use Rattle.jd_answer.specs.Reports.{body_kind, jml_kind, token_kind};
 ghost use Rattle.jd_answer.specs.Words.{word_texts};
@@ -12,8 +11,7 @@ use crate::answer::Answer;
 use crate::java::placed;
 use jd_base::NoMemory;
 use jd_bodies::Cause;
-use jd_classes::Classes;
-use jd_refusals::{Refusal, Refused, first_refused, one_refusal};
+use jd_refusals::{Refusal, Refused, ResolveRefusal, one_refusal};
 use jd_specifications::SpecCause;
 use std::alloc::Global;
 
@@ -70,19 +68,18 @@ fn token_answer(alloc: Global, names: &[String], refused: Refused) -> Result<Ans
     )
 }
 
-/// The answer for Java files of these names with these tables, where a token of a body or of JML is refused.
+/// The answer for Java files of these names, where a token of a body or of JML is refused.
 pub fn refused_token(
     alloc: Global,
     names: &[String],
-    classes: &Classes,
-) -> Result<Option<Answer>, NoMemory>
-    requires { (units : List JavaUnit) × AreTables units classes.now × (length units ≡ length names.now) }
-    ensures { (units : List JavaUnit) → AreTables units classes.now
-        → IfOk result (λ r. MatchOption r (IsFirst units None) (λ a. TellsToken (word_texts names.now) units a.status a.text.items)) }
+    refusal: ResolveRefusal,
+) -> Result<Answer, NoMemory>
+    requires { (units : List JavaUnit) × IsRefused units refusal × (length units ≡ length names.now) }
+    ensures { (units : List JavaUnit) → IsRefused units refusal → IfOk result (λ a. TellsToken (word_texts names.now) units a.status a.text.items) }
 {
     one_refusal();
-    match first_refused(alloc, classes)? {
-        None => Ok(None),
-        Some(refused) => Ok(Some(token_answer(alloc, names, refused)?)),
+    match refusal {
+        ResolveRefusal::Refused(refused) => token_answer(alloc, names, refused),
+        ResolveRefusal::NoMemory => Err(NoMemory),
     }
 }

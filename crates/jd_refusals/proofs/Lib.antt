@@ -1,1 +1,2 @@
 mod OneRefusal
+mod FirstTold

@@ -7,7 +7,7 @@ use Rattle.jd_base.specs.Faults.{Rose}
 use Rattle.jd_base.specs.InMemory.{contents_of}
 use Rattle.jd_model.specs.Sequents.{PlainSequent}
 use Rattle.jd_sequent.specs.Trees.{PlainStep}
-use Rattle.jd_first_java.specs.Programs.{Program}
+use Rattle.jd_sequent.specs.Obligations.{PlainTask}
 use Rattle.jd_answer.specs.Words.{replay_words}
 use Rattle.jd_answer.specs.Answers.{AreTold, IsTold}
 use Rattle.jd_answer.specs.ReadFaults.{IsNamed, IsReadFault}
@@ -27,7 +27,7 @@ pub no_read_fault : (ended status : Status) → IsWritten status → (ended ≡ 
 no_read_fault ended status written (inl same) is = written_is_no_fault status written (inl (sym same ∙ is))
 no_read_fault ended status written (inr fault) is = absurd cc
 
-module _ (leads : Program → PlainSequent → PlainStep → List PlainSequent → Type 0) (causes : Program → PlainSequent → PlainStep → ℕ → Type 0) (words : List (List ℕ)) (contents : List ℕ → Option (List ℕ)) (before after : List ℕ → ℕ) (sink_before sink_after : ℕ) where
+module _ (leads : PlainTask → PlainSequent → PlainStep → List PlainSequent → Type 0) (causes : PlainTask → PlainSequent → PlainStep → ℕ → Type 0) (words : List (List ℕ)) (contents : List ℕ → Option (List ℕ)) (before after : List ℕ → ℕ) (sink_before sink_after : ℕ) where
   -- a status whose causes are all excluded is one of the others
   pub ends_in_order : (ended : Status) → IsInOrder leads causes words contents → NoCountRose words before after sink_before sink_after → (ended ≡ Usage → replay_words words ≡ None) → (ended ≡ ReadFault → IsReadFault words before after) → (ended ≡ WriteFault → Rose sink_before sink_after) → (ended ≡ RefusedSource → IsSourceRefused words contents) → (ended ≡ RefusedScript → IsScriptRefused words contents) → (ended ≡ Limit → IsPastLimit leads causes words contents) → MayEndInOrder ended
   ends_in_order Done order calm usage read write source script limit = tt

@@ -2,8 +2,8 @@
 use Rattle.std.proofs.Common.{◌≡◌, ◌⊎◌, inl, inr, ℕ, List, Option, Some, sym, subst, ◌∙◌}
 use Rattle.jd_model.specs.Sequents.{PlainSequent}
 use Rattle.jd_sequent.specs.Trees.{PlainStep, ProofTree}
-use Rattle.jd_first_java.specs.Programs.{Program}
-use Rattle.jd_first_oblig.specs.Obligations.{obligation_name}
+use Rattle.jd_sequent.specs.Obligations.{PlainTask}
+use Rattle.jd_answer.specs.Sources.{obligation_name}
 use Rattle.jd_answer.specs.Answers.{HasProof, AreRead, IsAnswer, usage, many_files, long_proof, long_file, refused, judged}
 use Rattle.jd_answer.specs.FileAnswers.{IsRefusal}
 use Rattle.jd_answer.specs.Sources.{AreProgram}
@@ -29,8 +29,8 @@ no_refusal names files status text refusal not_source not_limit =
 
 -- ---- answers
 
-module _ (leads : Program → PlainSequent → PlainStep → List PlainSequent → Type 0) (causes : Program → PlainSequent → PlainStep → ℕ → Type 0) (words : List (List ℕ)) (contents : List ℕ → Option (List ℕ)) where
-  understood : (proof bytes : List ℕ) (names files : List (List ℕ)) (q : Program) (p : Option ProofTree) → AreRead words contents proof names bytes files → AreProgram files q → HasProof (obligation_name q) bytes p → AreUnderstood words contents q p
+module _ (leads : PlainTask → PlainSequent → PlainStep → List PlainSequent → Type 0) (causes : PlainTask → PlainSequent → PlainStep → ℕ → Type 0) (words : List (List ℕ)) (contents : List ℕ → Option (List ℕ)) where
+  understood : (proof bytes : List ℕ) (names files : List (List ℕ)) (q : PlainTask) (p : Option ProofTree) → AreRead words contents proof names bytes files → AreProgram files q → HasProof (obligation_name q) bytes p → AreUnderstood words contents q p
   understood proof bytes names files q p read program has =
       record { proof = proof; proof_bytes = bytes; names = names; files = files; read = read; java_ = program; script_ = has }
 
@@ -45,7 +45,7 @@ module _ (leads : Program → PlainSequent → PlainStep → List PlainSequent �
       let done = proof_done (leads q) (causes q) q proof bytes status text answer is in
       record { program = q; tree = done.0; understood = understood proof bytes names files q (Some done.0) read program done.1; derived = done.2 }
 
-  pub answer_not_accepted : ((q : Program) → OneWay (leads q)) → ((q : Program) → HasNoCause (leads q) (causes q)) → (status : Status) (text : List ℕ) → IsAnswer leads causes words contents status text → status ≡ NotAccepted → IsNotAccepted leads words contents
+  pub answer_not_accepted : ((q : PlainTask) → OneWay (leads q)) → ((q : PlainTask) → HasNoCause (leads q) (causes q)) → (status : Status) (text : List ℕ) → IsAnswer leads causes words contents status text → status ≡ NotAccepted → IsNotAccepted leads words contents
   answer_not_accepted way free status text (usage none) is = absurd cc
   answer_not_accepted way free status text (many_files proof names are many) is = absurd cc
   answer_not_accepted way free status text (long_proof proof bytes names are few told past) is = absurd cc

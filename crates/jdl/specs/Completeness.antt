@@ -4,7 +4,7 @@ use Rattle.jd_base.specs.Faults.{Rose}
 use Rattle.jd_base.specs.InMemory.{contents_of}
 use Rattle.jd_model.specs.Sequents.{PlainSequent}
 use Rattle.jd_sequent.specs.Trees.{PlainStep}
-use Rattle.jd_first_java.specs.Programs.{Program}
+use Rattle.jd_sequent.specs.Obligations.{PlainTask}
 use Rattle.jd_answer.specs.Words.{replay_words}
 use Rattle.jd_answer.specs.Answers.{IsAnswer}
 use Rattle.jd_answer.specs.ReadFaults.{IsNamed, IsReadFault}
@@ -13,7 +13,7 @@ use Rattle.jd_answer.specs.declared.status.Status.TheVariants.{Done, NotAccepted
 use Rattle.jdl.specs.Outcomes.{IsSourceRefused, IsScriptRefused, IsPastLimit}
 
 -- the words are a command, none of the files is refused, and no limit is passed
-pub record IsInOrder (leads : Program → PlainSequent → PlainStep → List PlainSequent → Type 0) (causes : Program → PlainSequent → PlainStep → ℕ → Type 0) (words : List (List ℕ)) (contents : List ℕ → Option (List ℕ)) : Type 0 where
+pub record IsInOrder (leads : PlainTask → PlainSequent → PlainStep → List PlainSequent → Type 0) (causes : PlainTask → PlainSequent → PlainStep → ℕ → Type 0) (words : List (List ℕ)) (contents : List ℕ → Option (List ℕ)) : Type 0 where
   pub command : replay_words words ≡ None → ⊥
   pub source : IsSourceRefused words contents → ⊥
   pub script_ : IsScriptRefused words contents → ⊥
@@ -37,7 +37,7 @@ MayEndInOrder Limit = ⊥
 MayEndInOrder NoMemory = Unit {0}
 
 -- as many bytes as each text has that is an answer are written without a failure
-abbrev pub FitsEachAnswer : (Program → PlainSequent → PlainStep → List PlainSequent → Type 0) → (Program → PlainSequent → PlainStep → ℕ → Type 0) → List (List ℕ) → (List ℕ → Option (List ℕ)) → (ℕ → Type 0) → Type 0
+abbrev pub FitsEachAnswer : (PlainTask → PlainSequent → PlainStep → List PlainSequent → Type 0) → (PlainTask → PlainSequent → PlainStep → ℕ → Type 0) → List (List ℕ) → (List ℕ → Option (List ℕ)) → (ℕ → Type 0) → Type 0
 FitsEachAnswer leads causes words contents steady =
     (status : Status) (text : List ℕ) → IsAnswer leads causes words contents status text → steady (length text)
 
@@ -48,6 +48,6 @@ abbrev pub AreHeld : List (List ℕ) → List (List ℕ × List ℕ) → Type 0
 AreHeld words files = (name : List ℕ) → IsNamed words name → IsSome (contents_of files name)
 
 -- so many bytes have room for each text that is an answer
-abbrev pub HasRoom : (Program → PlainSequent → PlainStep → List PlainSequent → Type 0) → (Program → PlainSequent → PlainStep → ℕ → Type 0) → List (List ℕ) → (List ℕ → Option (List ℕ)) → ℕ → Type 0
+abbrev pub HasRoom : (PlainTask → PlainSequent → PlainStep → List PlainSequent → Type 0) → (PlainTask → PlainSequent → PlainStep → ℕ → Type 0) → List (List ℕ) → (List ℕ → Option (List ℕ)) → ℕ → Type 0
 HasRoom leads causes words contents room =
     FitsEachAnswer leads causes words contents (λ n. n ≤ room)

@@ -21,7 +21,9 @@ pub use jd_answer::Status;
 use jd_answer::{Answer, Stop, answer_to};
 use jd_base::write_all;
 pub use jd_base::{Library, Sink};
+use jd_files::one_refusal;
 use jd_first_rules::FirstRules;
+use jd_first_tasks::{closed_first_tasks_are_kept, first_tasks_are_sorted};
 use std::alloc::Global;
 
 // Writes the text of an answer.
@@ -43,16 +45,16 @@ fn write_answer<S: Sink>(sink: &mut S, answer: &Answer) -> Status
 }
 
 /// Does what the words say with the files of a library, and writes the report to a sink: `replay
-/// PROOF FILE` replays a proof script for the method of a Java file. Status 0 exactly where the
-/// script derives the method's obligation with no goal left, and then the method keeps its contract.
+/// PROOF FILE+` replays a proof script for the program of Java files. Status 0 exactly where the
+/// script derives the program's obligation with no goal left, and then each case of it is kept as JML says it.
 pub fn run<L: Library, S: Sink>(
     alloc: Global,
     words: &[String],
     library: &mut L,
     sink: &mut S,
 ) -> Status
-    // Status 0 of `replay` means that each case of the program in the Java file is kept: from each state that
-    // meets the case's entry, each run that ends meets its exit, and where the contract asks for it the run ends.
+    // Status 0 of `replay` means that each case of each program that the Java files mean is kept as JML says it: from each state
+    // that meets the case's entry, each run that ends meets its exit, and where the contract asks for it the run ends.
     ensures kept { result ≡ Status.Done → IsTold (word_texts words.now) (L.contents library.old)
         → EachCaseIsKept (word_texts words.now) (L.contents library.old) }
 
@@ -100,6 +102,9 @@ pub fn run<L: Library, S: Sink>(
     ensures limit { result ≡ Status.Limit → IsTold (word_texts words.now) (L.contents library.old)
         → IsPastLimit first_leads first_causes (word_texts words.now) (L.contents library.old) }
 {
+    one_refusal();
+    first_tasks_are_sorted();
+    closed_first_tasks_are_kept();
     match answer_to(alloc, &FirstRules, words, library) {
         Ok(answer) => write_answer(sink, &answer),
         Err(Stop::ReadFault) => Status::ReadFault,

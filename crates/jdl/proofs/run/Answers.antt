@@ -11,7 +11,7 @@ use Rattle.jdl.proofs.SortedObligations.{obligations_are_sorted}
 use Rattle.jdl.proofs.run.Goals as goal
 
 pub answer_to-requires : goal.answer_to-requires
-answer_to-requires g c = record { accepts = obligations_are_sorted }
+answer_to-requires g c = record { accepts = obligations_are_sorted c.first_tasks_are_sorted.ensures }
 
 pub returns-in-Ok-clause-accepted : goal.returns-in-Ok-clause-accepted
 returns-in-Ok-clause-accepted g c = λ is told.
@@ -19,7 +19,7 @@ returns-in-Ok-clause-accepted g c = λ is told.
 
 pub returns-in-Ok-clause-kept : goal.returns-in-Ok-clause-kept
 returns-in-Ok-clause-kept g c = λ is told.
-    accepted_is_kept first_leads (λ q s. SortedSequent s) (word_texts c.args.words.now) (g.L.Library.contents c.args.library.now) obligations_are_sorted first_derivations_are_sound
+    accepted_is_kept c.one_refusal.ensures c.closed_first_tasks_are_kept.ensures first_leads (λ q s. SortedSequent s) (word_texts c.args.words.now) (g.L.Library.contents c.args.library.now) (obligations_are_sorted c.first_tasks_are_sorted.ensures) first_derivations_are_sound
     (answer_done first_leads first_causes (word_texts c.args.words.now) (g.L.Library.contents c.args.library.now) _ _ (c.in-Ok.ensures.answer told) (answered_so _ _ Done c.write_answer.ensures.either (λ e. cc) is))
 
 pub returns-in-Ok-clause-not_accepted : goal.returns-in-Ok-clause-not_accepted

@@ -1,7 +1,7 @@
 use Rattle.std.proofs.Common.{ℕ, List, Option, map, subst}
 use Rattle.std.proofs.lemmas.Result.{IfOk-weaker}
-use Rattle.jd_first_java.specs.Reads.{program_view}
-use Rattle.jd_answer.specs.Answers.{AreRead, IsAnswer, IsProofAnswer, causes_of, judged, leads_of, refused}
+use Rattle.jd_made_tasks.specs.Answers.{made_view}
+use Rattle.jd_answer.specs.Answers.{AreRead, IsAnswer, IsProofAnswer, judged, leads_of, refused}
 use Rattle.jd_answer.specs.Words.{word_texts}
 use Rattle.jd_answer.proofs.FileAnswers.{refusal_is_judged}
 use Rattle.jd_answer.proofs.answer.judged.Goals as goal
@@ -18,12 +18,12 @@ returns-in-Refused-clause-status g c =
 
 pub returns-in-Program-clause-answer : goal.returns-in-Program-clause-answer
 returns-in-Program-clause-answer g c =
-    let q = program_view c.in-Program.program in
+    let q = made_view c.in-Program.made in
     let names = word_texts c.args.named.now.files.now in
     let files = map (λ f. f.items) c.args.files.now in
     let program = (rw c.in-Program.is at c.in_ok-answer.ensures).0 in
     let leads = leads_of (g.R.RuleSet.instance c.args.rules.now) in
-    let causes = causes_of (g.R.RuleSet.cause c.args.rules.now) in
+    let causes = (g.R.RuleSet.cause c.args.rules.now) in
     IfOk-weaker c.answer_for.result (λ a. IsProofAnswer (leads q) (causes q) q c.as_bytes.result.now c.args.proof.now a.status a.text.items)
     (λ a. (words : List (List ℕ)) (contents : List ℕ → Option (List ℕ)) → AreRead words contents c.args.named.now.proof.now names c.args.proof.now files → IsAnswer leads causes words contents a.status a.text.items)
     (λ a answer words contents read. judged c.args.named.now.proof.now c.args.proof.now names files q a.status a.text.items read program (subst (λ n. IsProofAnswer (leads q) (causes q) q n c.args.proof.now a.status a.text.items) c.as_bytes.ensures.value answer)) c.answer_for.ensures.answer

@@ -1,0 +1,2 @@
+mod BodyRows
+mod InvariantRows

@@ -1,0 +1,3 @@
+mod ClassNames
+mod Exits
+mod Turns

@@ -1,0 +1,7 @@
+use Rattle.std.proofs.Common.{◌≡◌, ◌++◌, map, drop}
+use Rattle.jd_syntax.specs.Names.{decl_view}
+use Rattle.jd_case_obligations.proofs.obligations.copies.Given as goal
+
+-- those so far, and those that are left
+abbrev pub invariant-loop-v : goal.invariant-loop-v
+invariant-loop-v l = map decl_view l.made.items ++ map decl_view (drop l.v-index l.variables) ≡ map decl_view l.fn.variables

@@ -1,0 +1,10 @@
+mod Heads
+mod Lists
+mod Numbering
+mod Placing
+mod Specified
+mod Sorting
+mod Known
+mod Ordered
+mod Up
+mod Added

@@ -1,8 +1,0 @@
-use Rattle.std.proofs.Common.{◌≡◌, ◌<◌, ◌^◌, take}
-use Rattle.std.specs.Str.Parse.{AllDigits, digits_value}
-use Rattle.jd_first_java.proofs.numbers.value.Given as goal
-
--- the bytes so far are digits, and their number is below the limit
-abbrev pub invariant-loop-byte : goal.invariant-loop-byte
-invariant-loop-byte l =
-    AllDigits 10 (take l.byte-index l.word) × (l.value ≡ digits_value 10 (take l.byte-index l.word)) × (l.value < 2 ^ 31)

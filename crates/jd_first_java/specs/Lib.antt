@@ -1,4 +1,0 @@
-pub mod Alphabet
-pub mod Programs
-pub mod Grammar
-pub mod Reads

@@ -1,8 +1,0 @@
-mod VariableNames
-mod Comparisons
-mod Operands
-mod KnownContracts
-mod Meanings
-mod CaseStands
-mod MadeTasks
-pub mod KeptPrograms

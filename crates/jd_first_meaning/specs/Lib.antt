@@ -1,2 +1,0 @@
-pub mod SpelledPrograms
-pub mod ClosedPrograms

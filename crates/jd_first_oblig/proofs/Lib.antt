@@ -1,2 +1,0 @@
-pub mod Conjunctions
-pub mod Literals

@@ -1,0 +1,8 @@
+pub mod Alike
+pub mod Moved
+pub mod Shape
+pub mod OnlyCase
+pub mod Rows
+pub mod Kept
+mod Formulas
+mod Sorted

@@ -1,0 +1,6 @@
+//! The task of a program that has an obligation by now, and what holds of it. Laws alone.
+#![tactic(auto)]
+
+mod laws;
+
+pub use laws::{closed_first_tasks_are_kept, first_tasks_are_sorted, one_first_task};

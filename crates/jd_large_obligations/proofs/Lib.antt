@@ -1,0 +1,3 @@
+mod Large
+mod Levels
+mod Parts

@@ -1,0 +1,5 @@
+mod Form
+mod Found
+mod Past
+mod Tables
+mod Whole

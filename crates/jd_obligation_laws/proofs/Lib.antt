@@ -1,0 +1,5 @@
+mod Fitting
+mod Judging
+mod KnownTypes
+mod Making
+mod Sorts
