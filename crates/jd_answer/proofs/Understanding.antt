@@ -8,8 +8,6 @@ use Rattle.jd_files.specs.Files.{HaveTables}
 use Rattle.jd_files.proofs.Trees.{as_many_trees}
 use Rattle.jd_refusals.specs.Resolving.{AreResolved}
 use Rattle.jd_refusals.specs.declared.resolving.Resolved.{Resolved}
-use Rattle.jd_sequent.specs.Obligations.{PlainTask}
-use Rattle.jd_first_tasks.specs.Tasks.{IsFirstTask}
 use Rattle.jd_made_tasks.specs.Answers.{HasLargeTask, IsFirstAnswer, made_view}
 use Rattle.jd_made_tasks.specs.declared.tasks.FirstTask.{FirstTask}
 use Rattle.jd_made_tasks.specs.declared.tasks.FirstTask.TheVariants as answers

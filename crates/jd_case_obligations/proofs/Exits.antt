@@ -1,5 +1,5 @@
 -- The parts of an obligation, by its row and what the declaration says.
-use Rattle.std.proofs.Common.{◌≡◌, ℕ, List, ◌∷◌, ◌++◌, not, option_map, Result, Ok, IfOk, refl, sym, ap, subst, ◌∙◌}
+use Rattle.std.proofs.Common.{◌≡◌, ℕ, List, ◌∷◌, ◌++◌, not, option_map, Result, Ok, IfOk, refl, ap, subst, ◌∙◌}
 use Rattle.jd_syntax.specs.CodeNames.{heap_name}
 use Rattle.jd_syntax.specs.JavaTrees.{JavaUnit}
 use Rattle.jd_syntax.specs.Names.{Name, Declared}

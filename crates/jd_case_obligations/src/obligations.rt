@@ -11,7 +11,6 @@ ghost use Rattle.jd_jml_meaning.specs.JmlCases.{JmlCase};
 ghost use Rattle.jd_model.specs.Cases.{Contract};
 ghost use Rattle.jd_model.specs.ContractForms.{case_view};
 ghost use Rattle.jd_model.specs.Programs.{Body, Program};
-ghost use Rattle.jd_model.specs.Sequents.{sequent_view};
 ghost use Rattle.jd_model.specs.Tables.{receiver_then};
 ghost use Rattle.jd_oblig.specs.KeptByObligations.{sort_of_result};
 ghost use Rattle.jd_obligation_makers.specs.Parts.{has_name};
@@ -20,7 +19,7 @@ ghost use Rattle.jd_row_makers.specs.Heads.{declared_view, role_view};
 ghost use Rattle.jd_row_makers.specs.Rows.{IsHead};
 ghost use Rattle.jd_sequent.specs.Obligations.{loop_view, obligation_view};
 ghost use Rattle.jd_syntax.specs.JavaTrees.{JavaUnit};
-ghost use Rattle.jd_syntax.specs.Names.{Name, const_decl_view, decl_view};
+ghost use Rattle.jd_syntax.specs.Names.{Name, decl_view};
 ghost use Rattle.jd_term.specs.Shifts.{LocFits};
 ghost use Rattle.jd_term.specs.TermViews.{loc_view};
 

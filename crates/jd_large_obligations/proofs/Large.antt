@@ -1,5 +1,5 @@
 -- Where a clause is large, the sequent is.
-use Rattle.std.proofs.Common.{◌≡◌, ◌⊎◌, inl, inr, ℕ, true, List, [], ◌∷◌, ◌++◌, map}
+use Rattle.std.proofs.Common.{◌≡◌, inl, inr, ℕ, true, List, ◌++◌, map}
 use Rattle.std.specs.List.{list_all}
 use Rattle.jd_syntax.specs.JavaTrees.{JavaUnit}
 use Rattle.jd_term.specs.Formulas.{PlainFormula, Modal, Not, Updated}

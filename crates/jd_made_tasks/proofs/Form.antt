@@ -1,5 +1,5 @@
 -- What a program of the form has: one body, and no invariant.
-use Rattle.std.proofs.Common.{◌≡◌, ◌==◌, ℕ, zero, suc, true, List, [], ◌∷◌, length, Option, Some, None, refl, sym, ap, subst, ◌∙◌, arith}
+use Rattle.std.proofs.Common.{◌≡◌, ℕ, zero, suc, true, List, [], ◌∷◌, length, Option, Some, None, refl, subst, arith}
 use Rattle.std.specs.Prelude.{⊤, MatchOption}
 use Rattle.std.specs.List.{slice_get}
 use Rattle.std.specs.Option.{option_and_then}
@@ -16,7 +16,7 @@ use Rattle.jd_jml_written.specs.Marked.{class_invariants}
 use Rattle.jd_listed_tables.specs.Listed.{body_row, body_rows_from}
 use Rattle.jd_programs.specs.Programs.{body_of_declared, body_with, class_tree}
 use Rattle.jd_case_obligations.specs.Listed.{variables_of_body}
-use Rattle.jd_first_form.specs.Forms.{is_first_form, is_member_form, is_method_form}
+use Rattle.jd_first_form.specs.Forms.{is_first_form, is_method_form}
 use Rattle.jd_first_tasks.proofs.Shape.{by_shape, is_method, left_of_and, with_method}
 
 pub record OneBody (units : List JavaUnit) (d : Declarations) : Type 0 where

@@ -1,8 +1,7 @@
 -- The first row and the first body are those of the program's one case.
-use Rattle.std.proofs.Common.{◌≡◌, ◌<◌, ℕ, zero, suc, Bool, true, false, true≢false, cond, List, [], ◌∷◌, map, take, length, get_or, Option, Some, None, option_map, refl, sym, ap, ap₂, subst, ◌∙◌, arith}
+use Rattle.std.proofs.Common.{◌≡◌, ◌<◌, ℕ, zero, suc, Bool, true, false, true≢false, cond, List, [], ◌∷◌, map, take, length, get_or, Option, Some, None, option_map, refl, sym, ap, subst, ◌∙◌, arith}
 use Rattle.std.specs.List.{slice_get}
-use Rattle.std.proofs.lemmas.List.{length-map}
-use Rattle.std.proofs.lemmas.Option.{none-some, same_Some}
+use Rattle.std.proofs.lemmas.Option.{same_Some}
 use Rattle.jd_base.specs.declared.sort.Sort.TheVariants.{Int as IntSort}
 use Rattle.jd_syntax.specs.JavaTypes.{PlainType, IntType, BooleanType, IntArrayType, NamedType}
 use Rattle.jd_syntax.specs.JavaTrees.{JavaMethod, JavaResult, Void, Gives, OfConstructor, JavaUnit}
@@ -10,10 +9,9 @@ use Rattle.jd_syntax.specs.Names.{Name, Declared as DeclaredVariable, decl_view}
 use Rattle.jd_syntax.specs.declared.variable.VarDecl.{VarDecl}
 use Rattle.jd_jclasses.specs.Refusals.{AreClasses}
 use Rattle.jd_term.specs.Shifts.{LocFits}
-use Rattle.jd_bodies.specs.Bodies.{body_of}
 use Rattle.jd_bodies.specs.Declarations.{Declarations, type_by}
 use Rattle.jd_bodies.specs.Variables.{this_name}
-use Rattle.jd_model.specs.Cases.{Role, Static, Ordinary, Helper, ConstructorOf}
+use Rattle.jd_model.specs.Cases.{Static, Ordinary, Helper, ConstructorOf}
 use Rattle.jd_model.specs.ContractForms.{PlainBody, PlainCase, PlainContracts}
 use Rattle.jd_model.specs.Programs.{Body, type_sort}
 use Rattle.jd_model.specs.Tables.{BodyAt, body_in, receiver_then}
@@ -25,7 +23,7 @@ use Rattle.jd_specifications.specs.WrittenCases.{builds, contract, model_type, r
 use Rattle.jd_case_rows.specs.Rows.{row_of, spelled_for}
 use Rattle.jd_frame_laws.specs.Laws.{FramesFit}
 use Rattle.jd_programs.specs.Programs.{IsProgram, body_with}
-use Rattle.jd_listed_tables.specs.Listed.{body_row, fields_along, tables}
+use Rattle.jd_listed_tables.specs.Listed.{body_row, fields_along}
 use Rattle.jd_program_tables.specs.Laws.{ListedTablesAreMade}
 use Rattle.jd_program_tables.specs.Made.{AreMadeOf, RowAt}
 use Rattle.jd_case_obligations.specs.Listed.{keeps_invariant, variables_of_body}

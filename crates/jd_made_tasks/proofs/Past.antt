@@ -1,22 +1,19 @@
 -- Where tables of such a program are too large to be made, its task is past a limit; and where there is no row, there is no task.
-use Rattle.std.proofs.Common.{◌≡◌, ◌⊎◌, inl, inr, ⊎_elim, ℕ, true, List, [], ◌∷◌, ◌++◌, map, length, Option, Some, None, option_map, refl, sym, ap, subst, ◌∙◌}
+use Rattle.std.proofs.Common.{◌≡◌, inl, inr, ℕ, true, List, [], ◌∷◌, ◌++◌, map, length, Option, Some, None, option_map, refl, sym, ap, subst, ◌∙◌}
 use Rattle.std.specs.List.{slice_get, range_with_len}
-use Rattle.std.proofs.lemmas.Option.{none-some, same_Some}
+use Rattle.std.proofs.lemmas.Option.{none-some}
 use Rattle.jd_syntax.specs.JavaTrees.{JavaClass, JavaUnit}
 use Rattle.jd_jclasses.specs.Classes.{parents}
 use Rattle.jd_jclasses.specs.Refusals.{AreClasses}
 use Rattle.jd_bodies.specs.Declarations.{Declarations}
 use Rattle.jd_declaration_laws.specs.Laws.{DeclarationsAreOne}
-use Rattle.jd_model.specs.ContractForms.{PlainContracts, PlainInvariant}
-use Rattle.jd_model.specs.Programs.{Body, Program}
-use Rattle.jd_sequent.specs.Limits.{IsWithinLimits}
+use Rattle.jd_model.specs.ContractForms.{PlainContracts}
+use Rattle.jd_model.specs.Programs.{Body}
 use Rattle.jd_sequent.specs.Obligations.{PlainTask}
-use Rattle.jd_term.specs.Formulas.{PlainFormula}
 use Rattle.jd_jml_formulas.specs.declared.whole.Unmade.TheVariants as causes
 use Rattle.jd_jml_meaning.specs.ContractFormulas.{contract_of}
 use Rattle.jd_jml_meaning.specs.InvariantFormulas.{invariant_formulas}
 use Rattle.jd_jml_meaning.specs.JmlCases.{JmlCase, JmlProgram}
-use Rattle.jd_jml_meaning.specs.Resolved.{JmlExpr}
 use Rattle.jd_case_rows.specs.Rows.{spelled_for}
 use Rattle.jd_case_clauses.specs.Said.{OneIsLarge}
 use Rattle.jd_case_clauses.specs.Whole.{IsTooLarge}

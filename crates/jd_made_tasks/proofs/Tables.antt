@@ -1,5 +1,5 @@
 -- The tables by their parts.
-use Rattle.std.proofs.Common.{◌≡◌, ◌⊎◌, inl, inr, ⊎_elim, ℕ, List, map, refl, sym, ap, subst, ◌∙◌}
+use Rattle.std.proofs.Common.{◌≡◌, inl, ℕ, List, sym, ap, subst, ◌∙◌}
 use Rattle.std.specs.Prelude.{Err, IfErr, IfOk, Ok, Result}
 use Rattle.jd_syntax.specs.JavaTrees.{JavaUnit}
 use Rattle.jd_bodies.specs.Declarations.{Declarations}
@@ -7,7 +7,7 @@ use Rattle.jd_model.specs.ContractForms.{PlainBody, PlainCase, PlainContracts, P
 use Rattle.jd_model.specs.Programs.{Program}
 use Rattle.jd_jml_formulas.specs.declared.whole.Unmade.{Unmade}
 use Rattle.jd_jml_formulas.specs.declared.whole.Unmade.TheVariants as causes
-use Rattle.jd_jml_meaning.specs.JmlCases.{JmlCase, JmlProgram}
+use Rattle.jd_jml_meaning.specs.JmlCases.{JmlProgram}
 use Rattle.jd_jml_meaning.specs.Resolved.{JmlExpr}
 use Rattle.jd_programs.specs.Cases.{all_cases}
 use Rattle.jd_programs.specs.Programs.{IsProgram}

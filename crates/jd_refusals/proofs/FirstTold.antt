@@ -8,7 +8,7 @@ use Rattle.jd_check.specs.First as bodies
 use Rattle.jd_jml_refusals.specs.First as jml
 use Rattle.jd_jmlcheck.specs.Answers.{IsRefused}
 use Rattle.jd_specifications.specs.declared.fault.SpecFault.{SpecFault}
-use Rattle.jd_refusals.specs.Refusals.{IsFirst, in_body, behind_bodies, IsFirstOfBodies, IsFirstOfJml, PlainRefused, of_body, of_jml}
+use Rattle.jd_refusals.specs.Refusals.{IsFirst, in_body, behind_bodies, IsFirstOfBodies, PlainRefused, of_body, of_jml}
 use Rattle.jd_refusals.specs.Resolving.{IsTold}
 
 pub body_first : (units : List JavaUnit) (found : ℕ × Fault) (r : PlainRefused) → r ≡ of_body found → bodies.IsFirst units (Some found) → IsFirst units (Some r)

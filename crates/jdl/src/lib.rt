@@ -45,7 +45,7 @@ fn write_answer<S: Sink>(sink: &mut S, answer: &Answer) -> Status
 }
 
 /// Does what the words say with the files of a library, and writes the report to a sink: `replay
-/// PROOF FILE+` replays a proof script for the program of Java files. Status 0 exactly where the
+/// PROOF FILE+` replays a proof script for the program of Java files. Status 0 only where the
 /// script derives the program's obligation with no goal left, and then each case of it is kept as JML says it.
 pub fn run<L: Library, S: Sink>(
     alloc: Global,

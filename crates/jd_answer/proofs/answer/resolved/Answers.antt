@@ -1,4 +1,4 @@
-use Rattle.std.proofs.Common.{◌≡◌, sym, ◌∙◌}
+use Rattle.std.proofs.Common.{sym, ◌∙◌}
 use Rattle.jd_files.proofs.Trees.{as_many_trees}
 use Rattle.jd_answer.specs.Words.{word_texts}
 use Rattle.jd_answer.proofs.Understanding.{has_refused_token}

@@ -1,4 +1,4 @@
-use Rattle.std.proofs.Common.{◌≡◌, length}
+use Rattle.std.proofs.Common.{length}
 use Rattle.jd_answer.specs.Words.{word_texts}
 use Rattle.jd_answer.proofs.FileAnswers.{word_at}
 use Rattle.jd_answer.proofs.Understanding.{has_large_task, has_other_form, has_task, trees_for_names}

@@ -1,4 +1,4 @@
-use Rattle.std.proofs.Common.{◌≡◌, inl, inr, ⊎_elim, map, sym, ap, ◌∙◌}
+use Rattle.std.proofs.Common.{inr, ⊎_elim, map, ap, ◌∙◌}
 use Rattle.jd_bodies.specs.Bodies as made
 use Rattle.jd_check.specs.Building.{body_view}
 use Rattle.jd_jmlcheck.specs.Specified.{PlainSpecs}

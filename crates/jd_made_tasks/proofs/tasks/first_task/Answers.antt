@@ -1,4 +1,4 @@
-use Rattle.std.proofs.Common.{◌≡◌, true, map, sym, ap, ◌∙◌}
+use Rattle.std.proofs.Common.{true, map, ap, ◌∙◌}
 use Rattle.jd_check.specs.Building.{body_view}
 use Rattle.jd_first_form.specs.Forms.{is_first_form}
 use Rattle.jd_made_tasks.proofs.Whole.{form_of, program_of, refused}
