@@ -2,8 +2,8 @@
 use Rattle.std.proofs.Common.{◌≡◌, Bool, true, false, cond, Option, Some, None, List, [], ◌∷◌, refl, sym, ap, ◌∙◌, true≢false}
 use Rattle.jd_model.proofs.Wider.{expr_wider, exprs_wider, code_wider}
 use Rattle.jd_model.proofs.Writes.{member_here, member_there}
-use Rattle.jd_model.specs.AssignedVariables.{with_variable, with_optional, printed_before, assigned_in_expr, assigned_in_exprs, assigned_in_stmt, assigned_in_code, assigned_in_loop}
 use Rattle.jd_model.specs.Occurrences.{MaybeIn, ExprIn, ExprsIn, StmtIn, CodeIn, Always, AllOf, member}
+use Rattle.jd_syntax.specs.AssignedVariables.{with_variable, with_optional, printed_before, assigned_in_expr, assigned_in_exprs, assigned_in_stmt, assigned_in_code, assigned_in_loop}
 use Rattle.jd_syntax.specs.CodeNames.{same_name}
 use Rattle.jd_syntax.specs.Codes.{Expr, IntLiteral, BoolLiteral, NullLiteral, Variable, Unary, Binary, AndAlso, OrElse, Conditional, ReadField, ReadElement, LengthOf, Cast, InstanceOf, VirtualCall, StaticCall, ConstructorCall, DoThen, Exprs, NoExprs, ExprThen, Stmt, Set, WriteField, WriteElement, Evaluate, If, While, Block, Break, Catch, Finally, Throw, ThrowUnchecked, Return, ReturnVoid, Frame, Raise, AllocObject, AllocArray, NewArray, Stop, PlainCode, Done, Then}
 use Rattle.jd_syntax.specs.Names.{Name}

@@ -28,7 +28,6 @@ pub mod Sequents
 pub mod Examples
 pub mod AllocationExamples
 pub mod ControlExamples
-pub mod AssignedVariables
 pub mod InnermostFocus
 pub mod UpdatePlaces
 pub mod NumberedNames

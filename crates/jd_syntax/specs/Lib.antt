@@ -2,6 +2,8 @@ pub mod Codes
 pub mod CodeNames
 pub mod CodeSizes
 pub mod CodeViews
+pub mod AssignedVariables
+pub mod AssignedNames
 pub mod Names
 pub mod Sxs
 pub mod JavaTypes

@@ -1,6 +1,7 @@
 //! The trees of Java and JML, resolved Java code, and bracketed expressions.
 #![tactic(auto)]
 
+mod assigned;
 mod code;
 mod copy;
 mod equal;
@@ -11,6 +12,7 @@ mod spec;
 mod sx;
 mod variable;
 
+pub use assigned::assigned_vars;
 pub use code::{BinaryOp, Code, CodeExpr, CodeStmt, Kind, UnaryOp};
 pub use java::{
     AssignmentOperator, ClassDecl, ConstantDecl, CountOperator, Declarator, Expr, ExprForm,

@@ -1,9 +1,9 @@
 //! Rows of formulas, with code in them.
 
-use crate::texts::{expression, found, put_refusal};
+use crate::texts::{expression, found, made, put_refusal};
 use jd_base::{NoMemory, Sort, both};
 use jd_print::print_formula;
-use jd_syntax::Sx;
+use jd_syntax::{Code, Sx, VarId, assigned_vars};
 use jd_term::{Formula, Update, boxed_formula, copy, depth, size};
 use jd_tparse::{Names, parse_formula};
 use jd_tread::read_formula;
@@ -61,6 +61,25 @@ fn shortened(alloc: Global, u: &Update, f: &Formula) -> Result<Formula, NoMemory
     }
 }
 
+fn put_names(answer: &mut Answer, variables: &[VarId]) {
+    if variables.is_empty() {
+        return answer.put("nothing");
+    }
+    for (number, variable) in variables.iter().enumerate() {
+        if number > 0 {
+            answer.put(" ");
+        }
+        answer.put_bytes(&variable.name);
+    }
+}
+
+// The names of the variables that the code assigns.
+fn put_assigned(answer: &mut Answer, alloc: Global, code: &Code) {
+    if let Some(variables) = made(answer, &assigned_vars(alloc, code)) {
+        put_names(answer, variables);
+    }
+}
+
 /// What an operation gives of one formula.
 pub(crate) fn tell_formula(
     answer: &mut Answer,
@@ -73,6 +92,7 @@ pub(crate) fn tell_formula(
         ("read", _) => put_printed(answer, alloc, names, copy(alloc, f)),
         ("size", _) => answer.put_number(i128::from(size(f))),
         ("depth", _) => answer.put_number(i128::from(depth(f))),
+        ("assigned", Formula::Modal(_, code, _)) => put_assigned(answer, alloc, code),
         ("simplify", _) => put_simplified(answer, alloc, names, f),
         ("apply-update", Formula::Updated(u, a)) => put_applied(answer, alloc, names, u, a),
         ("drop-dead", Formula::Updated(u, a)) => put_printed(

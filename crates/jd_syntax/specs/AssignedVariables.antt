@@ -1,14 +1,29 @@
 -- The variables that a code assigns, in the order of their names, each once.
-use Rattle.std.specs.Prelude.{Bool, cond, Option, Some, None, List, [], ◌∷◌}
-use Rattle.std.specs.Ordering.{nat_cmp, is_lt}
+use Rattle.std.specs.Prelude.{ℕ, Bool, cond, Option, Some, None, List, [], ◌∷◌}
+use Rattle.std.specs.declared.cmp.Ordering.{Ordering}
+use Rattle.std.specs.Ordering.{nat_cmp, is_lt, ordering_then}
 use Rattle.std.specs.Cmp.Lexicographic.{slice_cmp}
+use Rattle.jd_base.specs.declared.sort.Sort.{Sort}
+use Rattle.jd_base.specs.declared.sort.Sort.TheVariants.{Int, Bool as BoolSort, Ref, Heap, Field}
 use Rattle.jd_syntax.specs.CodeNames.{same_name}
 use Rattle.jd_syntax.specs.Codes.{Expr, IntLiteral, BoolLiteral, NullLiteral, Variable, Unary, Binary, AndAlso, OrElse, Conditional, ReadField, ReadElement, LengthOf, Cast, InstanceOf, VirtualCall, StaticCall, ConstructorCall, DoThen, Exprs, NoExprs, ExprThen, Stmt, Set, WriteField, WriteElement, Evaluate, If, While, Block, Break, Catch, Finally, Throw, ThrowUnchecked, Return, ReturnVoid, Frame, Raise, AllocObject, AllocArray, NewArray, Stop, PlainCode, Done, Then}
 use Rattle.jd_syntax.specs.Names.{Name}
 
--- one printed name stands before the other, by their bytes
+-- the place of a sort among variables of one printed name
+abbrev pub sort_rank : Sort → ℕ
+sort_rank Int = 0
+sort_rank BoolSort = 1
+sort_rank Ref = 2
+sort_rank Heap = 3
+sort_rank Field = 4
+
+-- the order of names: by the bytes of their texts, and then by sort
+abbrev pub name_cmp : Name → Name → Ordering
+name_cmp x y = ordering_then (slice_cmp nat_cmp x.text y.text) (nat_cmp (sort_rank x.sort) (sort_rank y.sort))
+
+-- one name stands before the other
 abbrev pub printed_before : Name → Name → Bool
-printed_before x y = is_lt (slice_cmp nat_cmp x.text y.text)
+printed_before x y = is_lt (name_cmp x y)
 
 -- a sorted list with one name more
 abbrev pub with_variable : Name → List Name → List Name
