@@ -276,7 +276,8 @@ def needed_import(line, text):
     one = re.match(r"(?:ghost )?use [\w:.+-]*?([\w-]+)( as \w+)?;$", line)
     if many:
         head, path, joint, names = many.groups()
-        kept = [name.strip() for name in names.split(",") if name.strip() and is_named(name, text)]
+        last = re.split(r"::|\.", path)[-1]
+        kept = [name.strip() for name in names.split(",") if name.strip() and is_named(last if name.strip() == "self" else name, text)]
         return f"{head}{path}{joint}{{{', '.join(kept)}}};" if kept else None
     if one and not is_named(one[1] + (one[2] or ""), text):
         return None
@@ -312,7 +313,7 @@ class Library:
         if re.match(r"(pub(\([^)]*\))? )?mod ", head):
             return module + (re.search(r"\bmod (\w+)", head)[1], item.name)
         trait, self_type, own = impl_parts(head)
-        if trait is not None:
+        if trait is not None and trait != "Drop":
             return module + (words(self_type, own) + words(trait, own), item.name)
         base = re.sub(r"<.*", "", self_type).split("::")[-1]
         homes = self.types.get(base, [module])

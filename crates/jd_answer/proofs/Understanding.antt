@@ -33,19 +33,19 @@ module _ (names files : List (List ℕ)) (c : Classes) (t : HaveTables files c) 
     abbrev are_program_files : AreProgramFiles files
     are_program_files = record { units = t.units; trees = t.trees; stand = t.tables.stand; none = resolved.none }
 
-    pub has_task : (m : Made) (a : FirstTask) → a ≡ answers.Task m → IsFirstAnswer t.units a → AreProgram files (made_view m)
+    pub has_task : (m : Made) (a : FirstTask) → a ≡ answers.Task m → IsFirstAnswer t.units c a → AreProgram files (made_view c m)
     has_task m a is answer =
         let task = rw is at answer in
         record { resolved = are_program_files; task = task.0; within = task.1 }
 
-    pub has_other_form : (a : FirstTask) (name text : List ℕ) → a ≡ answers.OtherForm → IsFirstAnswer t.units a → slice_get names 0 ≡ Some name → text ≡ unbuilt_text name → IsRefusal names files RefusedSource text
+    pub has_other_form : (a : FirstTask) (name text : List ℕ) → a ≡ answers.OtherForm → IsFirstAnswer t.units c a → slice_get names 0 ≡ Some name → text ≡ unbuilt_text name → IsRefusal names files RefusedSource text
     has_other_form a name text is answer first text_is = by names first
       where
         by : (ns : List (List ℕ)) → slice_get ns 0 ≡ Some name → IsRefusal ns files RefusedSource text
         by [] first = absurd (none-some name first)
         by (n ∷ others) first = rw text_is (of_form name others (ap (λ m. m ∷ others) (same_Some n name first)) are_program_files (rw is at answer))
 
-    pub has_large_task : (a : FirstTask) (text : List ℕ) → a ≡ answers.TooLarge → IsFirstAnswer t.units a → text ≡ formula_limit_text → IsRefusal names files Limit text
+    pub has_large_task : (a : FirstTask) (text : List ℕ) → a ≡ answers.TooLarge → IsFirstAnswer t.units c a → text ≡ formula_limit_text → IsRefusal names files Limit text
     has_large_task a text is answer text_is =
         let large : HasLargeTask t.units = rw is at answer in
         rw text_is (of_size are_program_files large.task large.is_task large.past)

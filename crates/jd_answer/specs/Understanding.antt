@@ -9,5 +9,5 @@ use Rattle.jd_answer.specs.declared.answer.Understood.TheVariants as code
 
 -- a program with its task and the tables of its classes, or that they are none
 abbrev pub IsUnderstood : List (List ℕ) → List (List ℕ) → Understood → Type 0
-IsUnderstood names files (code.Program m classes) = AreProgram files (made_view m) × HaveTables files classes
+IsUnderstood names files (code.Program m classes) = AreProgram files (made_view classes m) × HaveTables files classes
 IsUnderstood names files (code.Refused a) = IsRefusal names files a.status a.text.items

@@ -95,9 +95,9 @@ fn verdict_of<R: RuleSet>(
     tree: &ScriptTree,
 ) -> Result<Verdict, NoMemory>
     requires accepts { AcceptsObligations (R.accepts rules.now) }
-    requires program { IsTaskOfFiles (made_view made.now) }
+    requires program { IsTaskOfFiles (made_view classes.now made.now) }
     ensures { IfOk result
-        (λ verdict. IsVerdict (leads_of (R.instance rules.now) (made_view made.now)) (R.cause rules.now (made_view made.now)) (tree_of (map node_view tree.now.nodes.items)) (obligation_sequent (made_view made.now)) verdict) }
+        (λ verdict. IsVerdict (leads_of (R.instance rules.now) (made_view classes.now made.now)) (R.cause rules.now (made_view classes.now made.now)) (tree_of (map node_view tree.now.nodes.items)) (obligation_sequent (made_view classes.now made.now)) verdict) }
 {
     let task = Task::of(classes, &made.contracts, &made.obligation);
     replay(alloc, rules, &task, &made.obligation.sequent, tree)
@@ -112,9 +112,9 @@ fn replayed<R: RuleSet>(
     proof: Option<ScriptTree>,
 ) -> Result<Answer, NoMemory>
     requires accepts { AcceptsObligations (R.accepts rules.now) }
-    requires program { IsTaskOfFiles (made_view made.now) }
+    requires program { IsTaskOfFiles (made_view classes.now made.now) }
     ensures report { IfOk result
-        (λ a. IsReport (leads_of (R.instance rules.now) (made_view made.now)) (R.cause rules.now (made_view made.now)) (obligation_name (made_view made.now)) (obligation_sequent (made_view made.now)) (option_map tree_view proof) a.status a.text.items) }
+        (λ a. IsReport (leads_of (R.instance rules.now) (made_view classes.now made.now)) (R.cause rules.now (made_view classes.now made.now)) (obligation_name (made_view classes.now made.now)) (obligation_sequent (made_view classes.now made.now)) (option_map tree_view proof) a.status a.text.items) }
     ensures status { IfOk result (λ a. IsJudged a.status) }
 {
     let name = made.obligation.name.as_slice();
@@ -169,7 +169,7 @@ fn task_of(
     requires some { 0 < length names.now }
     requires tables { (files : List (List ℕ)) × (have : HaveTables files classes.now) × (length files ≡ length names.now) × AreResolved have.units resolved.now }
     ensures { (files : List (List ℕ)) (have : HaveTables files classes.now) → length files ≡ length names.now → AreResolved have.units resolved.now
-        → IfOk result (λ r. MatchResult r (λ m. AreProgram files (made_view m)) (λ a. IsRefusal (word_texts names.now) files a.status a.text.items)) }
+        → IfOk result (λ r. MatchResult r (λ m. AreProgram files (made_view classes.now m)) (λ a. IsRefusal (word_texts names.now) files a.status a.text.items)) }
 {
     match first_task(alloc, names.len(), classes, resolved)? {
         FirstTask::Task(made) => Ok(Ok(made)),
@@ -223,9 +223,9 @@ fn answer_for<R: RuleSet>(
     proof: &[u8],
 ) -> Result<Answer, NoMemory>
     requires accepts { AcceptsObligations (R.accepts rules.now) }
-    requires program { IsTaskOfFiles (made_view made.now) }
+    requires program { IsTaskOfFiles (made_view classes.now made.now) }
     requires within { length proof.now ≤ proof_limit }
-    ensures answer { IfOk result (λ a. IsProofAnswer (leads_of (R.instance rules.now) (made_view made.now)) (R.cause rules.now (made_view made.now)) (made_view made.now) name.now proof.now a.status a.text.items) }
+    ensures answer { IfOk result (λ a. IsProofAnswer (leads_of (R.instance rules.now) (made_view classes.now made.now)) (R.cause rules.now (made_view classes.now made.now)) (made_view classes.now made.now) name.now proof.now a.status a.text.items) }
     ensures status { IfOk result (λ a. IsJudged a.status) }
 {
     let obligation = copy_bytes(alloc, &made.obligation.name)?;

@@ -3,7 +3,7 @@ use Rattle.std.proofs.Common.{List, None, Option, Some, ap, map, refl, sym, ◌�
 use Rattle.std.specs.Option.{unwrap_or}
 use Rattle.jd_call.specs.Calls.{ConstructorTarget, FocusedCall, StaticTarget, Target, VirtualTarget, call_of, call_stmt, called_class, called_method, formula_of}
 use Rattle.jd_call.specs.Laws.{NewObjectIsDetermined, UseContractIsDetermined}
-use Rattle.jd_call.specs.Methods.{PlainMethods}
+use Rattle.jd_task_classes.specs.Classes.{methods_of}
 use Rattle.jd_call.specs.NewObject.{Allocation, ArrayOf, NewObjectInstance, ObjectOf, alloc_stmt, allocation_premise, object_constant}
 use Rattle.jd_call.specs.UseContract.{UseContractInstance, case_in, premises_of}
 use Rattle.jd_model.specs.Contexts.{Context}
@@ -79,7 +79,7 @@ operands_are (ConstructorTarget m a) bs = refl
 
 -- ---- useContract
 
-module _ (methods : PlainMethods) (t : PlainTask) (s : PlainSequent) (place : PlainPlace) (number n : ℕ) (ps qs : List PlainSequent) (a : UseContractInstance methods t s place number n ps) (b : UseContractInstance methods t s place number n qs) where
+module _ (t : PlainTask) (s : PlainSequent) (place : PlainPlace) (number n : ℕ) (ps qs : List PlainSequent) (a : UseContractInstance t s place number n ps) (b : UseContractInstance t s place number n qs) where
   same_formula : formula_of a.call ≡ formula_of b.call
   same_formula = same_some (sym a.at_place.found ∙ b.at_place.found)
 
@@ -116,13 +116,13 @@ module _ (methods : PlainMethods) (t : PlainTask) (s : PlainSequent) (place : Pl
   same_body = same_some (sym a.body_found ∙ ap (λ (c : FocusedCall). body_in t.contracts.bodies (called_method c.target)) same_call ∙ b.body_found)
 
   same_case : a.case ≡ b.case
-  same_case = same_some (sym a.case_found ∙ ap (λ (c : FocusedCall). case_in t.contracts.cases (called_class methods c.target) (called_method c.target) number) same_call ∙ b.case_found)
+  same_case = same_some (sym a.case_found ∙ ap (λ (c : FocusedCall). case_in t.contracts.cases (called_class (methods_of t.classes) c.target) (called_method c.target) number) same_call ∙ b.case_found)
 
   same_premises : ps ≡ qs
-  same_premises = a.premises_are ∙ (λ i. map (put_at s place) (premises_of methods t (same_call i) (same_body i) (same_case i) n)) ∙ sym b.premises_are
+  same_premises = a.premises_are ∙ (λ i. map (put_at s place) (premises_of t (same_call i) (same_body i) (same_case i) n)) ∙ sym b.premises_are
 
 pub use_contract_determined : UseContractIsDetermined
-use_contract_determined methods t s place number n ps qs a b = same_premises methods t s place number n ps qs a b
+use_contract_determined t s place number n ps qs a b = same_premises t s place number n ps qs a b
 
 -- ---- newObject
 

@@ -7,8 +7,8 @@ use Rattle.std.specs.Option.{unwrap_or}
 use Rattle.jd_call.proofs.Calls.{body_of}
 use Rattle.jd_call.proofs.Use.{Found}
 use Rattle.jd_call.specs.Calls.{ConstructorTarget, StaticTarget, Target, VirtualTarget, called_method, parameters_of, target_kind}
-use Rattle.jd_call.specs.Methods.{Constructor, InstanceMethod, IsKindOf, MethodKind, StaticMethod}
-use Rattle.jd_call.specs.ResolvedCalls.{CallsAreResolved, CaseFor, HasReceiver, ReceiverVariable, body_on}
+use Rattle.jd_task_classes.specs.Methods.{Constructor, InstanceMethod, IsKindOf, MethodKind, StaticMethod}
+use Rattle.jd_task_classes.specs.ResolvedCalls.{CallsAreResolved, CaseFor, HasReceiver, ReceiverVariable, body_on}
 use Rattle.jd_call.specs.UseContract.{case_in}
 use Rattle.jd_heap.specs.Codings.{same}
 use Rattle.jd_heap.specs.Heaps.{Heap}

@@ -6,7 +6,7 @@ use Rattle.jd_call.proofs.Calls.{AllSimple, TargetSimple, receiver_term}
 use Rattle.jd_call.proofs.Sites.{ArgumentsOk, Operand, OperandIn, TargetOk}
 use Rattle.jd_call.proofs.Use.{OldVariable}
 use Rattle.jd_call.specs.Calls.{ConstructorTarget, OperandsAreSimple, ReceiverIsSimple, StaticTarget, Target, VirtualTarget, call_of, call_stmt, target_kind}
-use Rattle.jd_call.specs.Methods.{IsKindOf}
+use Rattle.jd_task_classes.specs.Methods.{IsKindOf}
 use Rattle.jd_heap.specs.Values.{IsOf}
 use Rattle.jd_model.proofs.SimpleExpressions.{simple_of, value_of_simple}
 use Rattle.jd_model.proofs.Writes.{apart_by, flip_apart}

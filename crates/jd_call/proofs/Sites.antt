@@ -4,7 +4,7 @@ use Rattle.jd_base.specs.declared.sort.Sort.{Sort}
 use Rattle.jd_base.specs.declared.sort.Sort.TheVariants.{Bool as BoolSort, Field as FieldSort, Heap as HeapSort, Int as IntSort, Ref as RefSort}
 use Rattle.jd_call.proofs.Calls.{receiver_term, values}
 use Rattle.jd_call.specs.Calls.{ConstructorTarget, StaticTarget, Target, VirtualTarget, receiver_constants, receiver_terms, terms_of}
-use Rattle.jd_call.specs.Methods.{IsResultSort}
+use Rattle.jd_task_classes.specs.Methods.{IsResultSort}
 use Rattle.jd_call.specs.Premises.{at_entry, at_exit, constants, exception_constant, heap_after, heap_before, result_constant, result_terms, result_variables}
 use Rattle.jd_heap.specs.Heaps.{Heap, anon}
 use Rattle.jd_heap.specs.References.{Location, Null, Reference}

@@ -10,10 +10,11 @@ use Rattle.jd_call.proofs.Sites.{Site}
 use Rattle.jd_call.proofs.Use.{NullFor, OldConstant, OldVariable, UseOk, use_box, use_diamond}
 use Rattle.jd_call.specs.Calls.{ConstructorTarget, FocusedCall, OperandsAreSimple, StaticTarget, Target, VirtualTarget, call_of, call_stmt, called_class, called_method, formula_of, parameters_of, target_kind}
 use Rattle.jd_call.specs.Laws.{NewObjectIsSound, UseContractIsSound}
-use Rattle.jd_call.specs.Methods.{IsKindOf, IsResultSort, MethodOfCase, MethodsStandFor, PlainMethods}
+use Rattle.jd_task_classes.specs.Classes.{methods_of}
+use Rattle.jd_task_classes.specs.Methods.{IsKindOf, IsResultSort, MethodOfCase, MethodsStandFor, PlainMethods}
 use Rattle.jd_call.specs.NewObject.{Allocation, ArrayOf, LengthIsSimple, ObjectOf, alloc_stmt, allocation_premise, object_constant}
 use Rattle.jd_call.specs.Premises.{call_constants, call_premises, call_variables, entry_premise, null_premises}
-use Rattle.jd_call.specs.ResolvedCalls.{CallsAreResolved}
+use Rattle.jd_task_classes.specs.ResolvedCalls.{CallsAreResolved}
 use Rattle.jd_call.specs.UseContract.{MayCall, UseContractInstance, is_in_cluster}
 use Rattle.jd_heap.specs.Values.{IntValue, RefValue}
 use Rattle.jd_model.proofs.BodyTables.{bodies_assign_no_heap}
@@ -106,7 +107,16 @@ permitted_by : (p : SpecifiedProgram) (own : ℕ) (c : Case) (f : PlainCase) →
 permitted_by p own c f e modalities.Necessity reached back r b may = refl
 permitted_by p own c f e modalities.Possibility reached back r b may = (sym e ∙ may.0, (sym r ∙ may.1, sym (ap (λ z. z && back) may.1 ∙ b)))
 
-module _ (methods : PlainMethods) (t : PlainTask) (s : PlainSequent) (place : PlainPlace) (number n : ℕ) (premises : List PlainSequent) (inst : UseContractInstance methods t s place number n premises) (p : SpecifiedProgram) (c : Case) (task : TaskStandsFor t p c) (tables : MethodsStandFor methods p) (resolved : CallsAreResolved p) where
+module _ (t : PlainTask) (s : PlainSequent) (place : PlainPlace) (number n : ℕ) (premises : List PlainSequent) (inst : UseContractInstance t s place number n premises) (p : SpecifiedProgram) (c : Case) (task : TaskStandsFor t p c) where
+  abbrev methods : PlainMethods
+  methods = methods_of t.classes
+
+  tables : MethodsStandFor methods p
+  tables = task.classes.cases
+
+  resolved : CallsAreResolved p
+  resolved = task.classes.calls
+
   abbrev call : FocusedCall
   call = inst.call
 
@@ -212,8 +222,8 @@ module _ (methods : PlainMethods) (t : PlainTask) (s : PlainSequent) (place : Pl
 
   permitted : Permitted p c.family named_case.case call.modality cluster
   permitted = permitted_by p c.family named_case.case inst.case named_case.stands.diverges call.modality (methods.reaches (methods.family t.obligation.method) (methods.family method)) (methods.reaches (methods.family method) (methods.family t.obligation.method))
-      (tables.reaches (methods.family t.obligation.method) (methods.family method) ∙ (λ x. p.reaches (own_family x) (callee_family x)))
-      (tables.reaches (methods.family method) (methods.family t.obligation.method) ∙ (λ x. p.reaches (callee_family x) (own_family x)))
+      ((λ x. methods.reaches (own_family x) (callee_family x)) ∙ tables.reaches task.case.index named_case.index c named_case.case task.case.found named_case.is_case)
+      ((λ x. methods.reaches (callee_family x) (own_family x)) ∙ tables.reaches named_case.index task.case.index named_case.case c named_case.is_case task.case.found)
       inst.permitted
 
   sound : AllAssignNoHeap p.setting.program → StepIsSoundIn p c s premises
@@ -226,4 +236,4 @@ module _ (methods : PlainMethods) (t : PlainTask) (s : PlainSequent) (place : Pl
       (subst (λ (e : List Name × ℕ). AllValid p.setting d m (map (put_at s place) (call_premises inst.case e.0 result call.target call.operands n call.modality call.context call.after e.1 call.into cluster))) (λ x. (parameters x, tables.null_pointer x)) (subst (AllValid p.setting d m) inst.premises_are valid))
 
 pub use_contract_sound : UseContractIsSound
-use_contract_sound methods t bodies s place number n premises inst p c task tables resolved = sound methods t s place number n premises inst p c task tables resolved (bodies_assign_no_heap t.contracts p task.tables bodies)
+use_contract_sound t bodies s place number n premises inst p c task = sound t s place number n premises inst p c task (bodies_assign_no_heap t.contracts p task.tables bodies)

@@ -6,7 +6,7 @@ use Rattle.jd_call.proofs.After.{after_call, after_thrown, box_moves, box_waits,
 use Rattle.jd_call.proofs.Calls.{AllSimple, CallMeets, Returns, TargetSimple, Throws, body_meets, body_of, call_runs, if_null, is_not_ended, over_back, receiver_term, returns, throws}
 use Rattle.jd_call.proofs.Sites.{ResultGiven, Site, SiteOk, after_state, back_true, call_heap, call_receiver, call_values, conj_parts, conj_true, entry_means, entry_renaming, exceptional_true, exit_renaming, front_true, given_receiver, heap_renewed, measure_means, normal_true, result_values, typed_sort}
 use Rattle.jd_call.specs.Calls.{ConstructorTarget, ResultFits, StaticTarget, Target, VirtualTarget, call_of, call_stmt}
-use Rattle.jd_call.specs.Methods.{IsResultSort}
+use Rattle.jd_task_classes.specs.Methods.{IsResultSort}
 use Rattle.jd_call.specs.Premises.{call_constants, call_variables, entry_premise, exception_constant, exception_variable, exceptional_premise, heap_after, heap_before, normal_premise, result_constant, result_constants, smaller_measure, unless_receiver_is_null, with_result_in}
 use Rattle.jd_heap.specs.Heaps.{Heap}
 use Rattle.jd_heap.specs.References.{Array, Null, Object, Reference, is_null}

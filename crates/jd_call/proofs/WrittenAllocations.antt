@@ -2,7 +2,8 @@
 use Rattle.std.specs.Fmt.{digits}
 use Rattle.std.proofs.Common.{Some, refl}
 use Rattle.jd_call.specs.NewObject.{ArrayOf, ObjectOf}
-use Rattle.jd_call.specs.RecursiveCall.{goal, int_result, method_with, n, the_class}
+use Rattle.jd_call.specs.RecursiveCall.{goal, int_result, method_with, n}
+use Rattle.jd_task_classes.specs.OneClass.{the_class}
 use Rattle.jd_call.specs.WrittenAllocations.{AllocationsAreWritten, a, return_n}
 use Rattle.jd_model.specs.Contexts.{Here, InCatch, InFrame}
 use Rattle.jd_model.specs.SpecialNames.{thrown_variable}

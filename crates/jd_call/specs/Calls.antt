@@ -2,7 +2,7 @@
 use Rattle.std.specs.Prelude.{List, None, Option, Some, drop, map, take, ◌≡◌, ◌∷◌, ℕ, []}
 use Rattle.jd_base.specs.declared.sort.Sort.{Sort}
 use Rattle.jd_base.specs.declared.sort.Sort.TheVariants.{Ref as RefSort}
-use Rattle.jd_call.specs.Methods.{Constructor, InstanceMethod, MethodKind, PlainMethods, StaticMethod}
+use Rattle.jd_task_classes.specs.Methods.{Constructor, InstanceMethod, MethodKind, PlainMethods, StaticMethod}
 use Rattle.jd_model.specs.Contexts.{Context}
 use Rattle.jd_model.specs.ContractForms.{PlainBody}
 use Rattle.jd_model.specs.InnermostFocus.{innermost_focus}

@@ -1,5 +1,3 @@
-pub mod Methods
-pub mod ResolvedCalls
 pub mod Calls
 pub mod Premises
 pub mod UseContract

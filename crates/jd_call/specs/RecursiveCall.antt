@@ -1,21 +1,23 @@
 -- A method that calls itself, and the use of its contract at that call as it is written.
-use Rattle.std.specs.Prelude.{List, None, Option, Some, codes, false, nat_eq, pos, suc, true, zero, ◌≡◌, ◌∷◌, ◌==◌, ℕ, [], if◌then◌else◌}
+use Rattle.std.specs.Prelude.{List, None, Option, Some, codes, false, nat_eq, pos, suc, true, zero, ◌∷◌, ◌==◌, ℕ, [], if◌then◌else◌}
 use Rattle.jd_base.specs.declared.sort.Sort.TheVariants.{Bool as BoolSort, Heap as HeapSort, Int as IntSort, Ref as RefSort}
-use Rattle.jd_call.specs.Methods.{InstanceMethod, MethodsStandFor, PlainMethods}
-use Rattle.jd_call.specs.ResolvedCalls.{CallsAreResolved}
+use Rattle.jd_jinfos.specs.Infos.{PlainMethodInfo}
+use Rattle.jd_task_classes.specs.OneClass.{one_class, program_of, the_class}
 use Rattle.jd_call.specs.UseContract.{UseContractInstance}
 use Rattle.jd_model.specs.BodyTables.{BodiesAssignNoHeap}
 use Rattle.jd_model.specs.Cases.{AnyEnd, Case, Contract, DeclaredType, Ordinary, SpecifiedProgram}
 use Rattle.jd_model.specs.Contexts.{one}
 use Rattle.jd_model.specs.ContractForms.{PlainBody, PlainCase}
-use Rattle.jd_model.specs.Programs.{Body, IntType, Program, is_subclass}
+use Rattle.jd_model.specs.Programs as model
+use Rattle.jd_model.specs.Programs.{Body}
 use Rattle.jd_model.specs.Sequents.{PlainPlace, PlainSequent}
 use Rattle.jd_model.specs.SpecialNames.{entry_heap, entry_measure, receiver, result_variable, thrown_variable}
 use Rattle.jd_model.specs.declared.sequent.Side.TheVariants.{Right}
 use Rattle.jd_sequent.specs.Obligations.{PlainTask}
-use Rattle.jd_sequent.specs.TaskMeaning.{StepIsSoundIn, TaskStandsFor}
+use Rattle.jd_sequent.specs.TaskMeaning.{StepIsSound, TaskStandsFor}
 use Rattle.jd_syntax.specs.CodeNames.{heap_name}
 use Rattle.jd_syntax.specs.Codes.{Binary, Catch, Done, ExprThen, Frame, If, IntLiteral, NoExprs, OfClass, PlainCode, Raise, Return, Set, Stmt, Then, ThrowUnchecked, Variable, VirtualCall}
+use Rattle.jd_syntax.specs.JavaTypes.{IntType}
 use Rattle.jd_syntax.specs.Names.{Declared, Name}
 use Rattle.jd_term.specs.Formulas.{And, Equal, Implies, InInt, Invariant, IsExactInstance, IsInstance, Less, LessOrEqual, Modal, Not, PlainFormula, Updated, WellFormed}
 use Rattle.jd_term.specs.Terms.{Anon, Arithmetic, Boolean, Constant, CreatedField, NoLocations, NullTerm, Number, PlainTerm, ProgramVariable, Select, Wrap}
@@ -60,7 +62,10 @@ return_x = one (Return (Variable x))
 abbrev pub zero_code : PlainCode
 zero_code = Then (If (Binary binary_ops.LessOrEqual (Variable n) (IntLiteral (pos 0))) (one (Return (IntLiteral (pos 0)))) Done) (Then (Set y (Binary binary_ops.Subtract (Variable n) (IntLiteral (pos 1)))) (Then call return_x))
 
--- ---- the task, with one class of number 10 behind those that are always there
+-- ---- the task, with one class behind those that are always there
+abbrev pub zero_methods : List PlainMethodInfo
+zero_methods = record { name = codes "zero"; class = the_class; member = 0; static = false; constructor = false; params = IntType ∷ []; result = Some IntType } ∷ []
+
 abbrev pub created : PlainTerm → PlainTerm → PlainFormula
 created h o = Equal (Select BoolSort h o CreatedField) (Boolean true)
 
@@ -69,9 +74,6 @@ throwable = 1
 
 abbrev pub null_pointer : ℕ
 null_pointer = 4
-
-abbrev pub the_class : ℕ
-the_class = 10
 
 abbrev pub zero_row : PlainCase
 zero_row = record {
@@ -124,6 +126,7 @@ call_place = record { side = Right; index = 1; path = 2 ∷ [] }
 
 abbrev pub call_task : PlainTask
 call_task = record {
+  classes = one_class zero_methods;
   contracts = record { cases = zero_row ∷ []; invariants = []; bodies = zero_body_row ∷ [] };
   obligation = record {
     name = codes "Z::zero#1";
@@ -136,16 +139,6 @@ call_task = record {
     diamond = true;
     sequent = call_sequent;
   };
-}
-
-abbrev pub methods : PlainMethods
-methods = record {
-  kind = λ m. InstanceMethod;
-  class = λ m. the_class;
-  result = λ m. Some IntSort;
-  family = λ m. 0;
-  reaches = λ a b. nat_eq a b;
-  null_pointer = null_pointer;
 }
 
 -- ---- the premises
@@ -217,7 +210,7 @@ written_premises = behind written_entry ∷ (behind written_null ∷ (behind wri
 -- ---- the program
 
 abbrev pub an_int : DeclaredType
-an_int = record { type = IntType; nullable = false }
+an_int = record { type = model.IntType; nullable = false }
 
 abbrev pub zero_contract : Contract
 zero_contract = record {
@@ -244,37 +237,18 @@ abbrev pub only_first : {A : Type 0} → A → ℕ → Option A
 only_first a zero = Some a
 only_first a (suc k) = None
 
--- in any tables of classes
-abbrev pub program_in : Program → SpecifiedProgram
-program_in classes = record {
-  setting = record {
-    program = record {
-      superclasses = classes.superclasses;
-      object = 0;
-      throwable = throwable;
-      null_pointer = null_pointer;
-      arithmetic = classes.arithmetic;
-      bounds = classes.bounds;
-      cast = classes.cast;
-      negative_size = classes.negative_size;
-      field_type = classes.field_type;
-      has_field = classes.has_field;
-      lookup = λ c m. Some 0;
-      body = λ m. if 0 == m then Some zero_body else None;
-    };
-    invariants = λ c. [];
-  };
+abbrev pub zero_program : SpecifiedProgram
+zero_program = record {
+  setting = record { program = program_of zero_methods (λ m. if 0 == m then Some zero_body else None); invariants = λ c. [] };
   case = only_first zero_case;
   families = 1;
   reaches = λ a b. nat_eq a b;
 }
 
--- the written step is an instance; the task's tables stand for a program in any tables of classes with no class below this
--- one, so that all conditions of the law can be met together; and the step is sound
+-- the written step is an instance, the task's tables stand for a program, so that all conditions of the law can be met together, and the
+-- step is sound
 pub record RecursiveCallIsSound : Type 0 where
-  pub written : UseContractInstance methods call_task call_sequent call_place 1 1 written_premises
+  pub written : UseContractInstance call_task call_sequent call_place 1 1 written_premises
   pub bodies : BodiesAssignNoHeap call_task.contracts
-  pub task : (classes : Program) → TaskStandsFor call_task (program_in classes) zero_case
-  pub tables : (classes : Program) → MethodsStandFor methods (program_in classes)
-  pub resolved : (classes : Program) → ((c : ℕ) → is_subclass classes c the_class ≡ true → c ≡ the_class) → CallsAreResolved (program_in classes)
-  pub sound : (classes : Program) → ((c : ℕ) → is_subclass classes c the_class ≡ true → c ≡ the_class) → StepIsSoundIn (program_in classes) zero_case call_sequent written_premises
+  pub task : TaskStandsFor call_task zero_program zero_case
+  pub sound : StepIsSound call_task call_sequent written_premises

@@ -2,7 +2,7 @@
 use Rattle.std.specs.Prelude.{Bool, List, None, Option, Some, false, map, true, ◌≡◌, ◌∷◌, ◌&&◌, ◌==◌, ℕ, [], if◌then◌else◌}
 use Rattle.std.specs.List.{list_any}
 use Rattle.jd_call.specs.Calls.{CallFits, FocusedCall, IsAtFocus, called_class, called_method, formula_of, parameters_of, target_kind}
-use Rattle.jd_call.specs.Methods.{PlainMethods}
+use Rattle.jd_task_classes.specs.Classes.{methods_of}
 use Rattle.jd_call.specs.Premises.{call_constants, call_premises, call_variables}
 use Rattle.jd_model.specs.ContractForms.{PlainBody, PlainCase}
 use Rattle.jd_model.specs.Occurrences.{AllOf}
@@ -38,39 +38,39 @@ abbrev pub IsInNoBody : PlainTask → Name → Type 0
 IsInNoBody t x = list_any (λ (b : PlainBody). named_in_code x b.code) t.contracts.bodies ≡ false
 
 -- the task's family reaches the callee's, and that reaches the task's
-module _ (methods : PlainMethods) (t : PlainTask) (c : FocusedCall) where
+module _ (t : PlainTask) (c : FocusedCall) where
   abbrev pub caller_family : ℕ
-  caller_family = methods.family t.obligation.method
+  caller_family = (methods_of t.classes).family t.obligation.method
 
   abbrev pub callee_family : ℕ
-  callee_family = methods.family (called_method c.target)
+  callee_family = (methods_of t.classes).family (called_method c.target)
 
   abbrev pub reaches_callee : Bool
-  reaches_callee = methods.reaches caller_family callee_family
+  reaches_callee = (methods_of t.classes).reaches caller_family callee_family
 
   abbrev pub callee_reaches : Bool
-  callee_reaches = methods.reaches callee_family caller_family
+  callee_reaches = (methods_of t.classes).reaches callee_family caller_family
 
 -- the premises' formulas of step n, for the call's body and case
-abbrev pub premises_of : PlainMethods → PlainTask → FocusedCall → PlainBody → PlainCase → ℕ → List PlainFormula
-premises_of methods t c b f n =
-    call_premises f (parameters_of (target_kind c.target) b) (methods.result (called_method c.target)) c.target c.operands n
-    c.modality c.context c.after methods.null_pointer c.into (is_in_cluster c.modality (reaches_callee methods t c) (callee_reaches methods t c))
+abbrev pub premises_of : PlainTask → FocusedCall → PlainBody → PlainCase → ℕ → List PlainFormula
+premises_of t c b f n =
+    call_premises f (parameters_of (target_kind c.target) b) ((methods_of t.classes).result (called_method c.target)) c.target c.operands n
+    c.modality c.context c.after (methods_of t.classes).null_pointer c.into (is_in_cluster c.modality (reaches_callee t c) (callee_reaches t c))
 
 -- at the place stands a modality, and at its innermost focus a call with simple operands; of the called method there is a
 -- case of this number; the names of step n are new; the premises are the sequent with each of the premises' formulas at the
 -- place
-pub record UseContractInstance (methods : PlainMethods) (t : PlainTask) (s : PlainSequent) (place : PlainPlace) (number n : ℕ) (premises : List PlainSequent) : Type 0 where
+pub record UseContractInstance (t : PlainTask) (s : PlainSequent) (place : PlainPlace) (number n : ℕ) (premises : List PlainSequent) : Type 0 where
   pub call : FocusedCall
   pub at_place : IsUpdatePlace s place (formula_of call)
   pub at_focus : IsAtFocus call
   pub body : PlainBody
   pub body_found : body_in t.contracts.bodies (called_method call.target) ≡ Some body
-  pub fits : CallFits methods call (parameters_of (target_kind call.target) body)
+  pub fits : CallFits (methods_of t.classes) call (parameters_of (target_kind call.target) body)
   pub case : PlainCase
-  pub case_found : case_in t.contracts.cases (called_class methods call.target) (called_method call.target) number ≡ Some case
-  pub permitted : MayCall call.modality case (reaches_callee methods t call)
+  pub case_found : case_in t.contracts.cases (called_class (methods_of t.classes) call.target) (called_method call.target) number ≡ Some case
+  pub permitted : MayCall call.modality case (reaches_callee t call)
   pub variables_new : AllOf (IsNewVariable s) (call_variables n)
   pub in_no_body : AllOf (IsInNoBody t) (call_variables n)
-  pub constants_new : AllOf (IsNewConstant t.obligation s) (call_constants (methods.result (called_method call.target)) n)
-  pub premises_are : premises ≡ map (put_at s place) (premises_of methods t call body case n)
+  pub constants_new : AllOf (IsNewConstant t.obligation s) (call_constants ((methods_of t.classes).result (called_method call.target)) n)
+  pub premises_are : premises ≡ map (put_at s place) (premises_of t call body case n)

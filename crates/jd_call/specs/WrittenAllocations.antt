@@ -2,7 +2,8 @@
 use Rattle.std.specs.Prelude.{codes, ◌∷◌, []}
 use Rattle.jd_base.specs.declared.sort.Sort.TheVariants.{Ref as RefSort}
 use Rattle.jd_call.specs.NewObject.{NewObjectInstance}
-use Rattle.jd_call.specs.RecursiveCall.{call_task, created, goal, heap, method_with, n, the_class}
+use Rattle.jd_call.specs.RecursiveCall.{call_task, created, goal, heap, method_with, n}
+use Rattle.jd_task_classes.specs.OneClass.{the_class}
 use Rattle.jd_model.specs.Contexts.{one}
 use Rattle.jd_model.specs.Sequents.{PlainPlace, PlainSequent}
 use Rattle.jd_model.specs.declared.sequent.Side.TheVariants.{Right}

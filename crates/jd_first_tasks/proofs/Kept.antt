@@ -35,6 +35,7 @@ use Rattle.jd_case_rows.specs.Rows.{row_of}
 use Rattle.jd_programs.specs.Programs.{IsProgram, body_with}
 use Rattle.jd_listed_tables.specs.Listed.{fields_along, tables}
 use Rattle.jd_program_laws.specs.Laws.{AreLexicalMethods, EveryClosedCaseOfProgramsIsKept}
+use Rattle.jd_program_laws.specs.TaskClasses.{ClassesOfProgramsStand}
 use Rattle.jd_program_tables.specs.Laws.{ListedFieldsAreThose, ListedTablesAreMade, TablesOfProgramsStand}
 use Rattle.jd_program_tables.specs.Made.{RowAt}
 use Rattle.jd_one_program.specs.Laws.{ProgramsAreOne}
@@ -104,6 +105,7 @@ module _
     (those : ListedFieldsAreThose)
     (listed : ListedTablesAreMade)
     (stand : TablesOfProgramsStand)
+    (classes : ClassesOfProgramsStand)
     (files : List (List ℕ))
     (units : List JavaUnit)
     (trees : AreTrees files units)
@@ -162,6 +164,7 @@ module _
 
     stands_for : TaskStandsFor q (specified j) (case_of j.program task.case)
     stands_for = record {
+      classes = classes units are (lexical.constructors files units trees) q.classes task.classes j is;
       tables = tables_stand;
       case = record {
         index = 0;
@@ -195,6 +198,6 @@ module _
     each_kept closed sound =
         closed units (lexical.methods files units trees) (lexical.parameters files units trees) j is (lexical.constants files units trees d is.are_declarations) nothing.in_bodies q.contracts tables_stand (λ κ. q.obligation.sequent) made_each (sound_each sound)
 
-pub closed_kept : DeclarationsAreOne → ProgramsAreOne → TreesAreLexical → BodyVariablesAreOrdinary → ListedFieldsAreThose → ListedTablesAreMade → TablesOfProgramsStand → EveryClosedCaseOfProgramsIsKept → ClosedFirstTasksAreKept
-closed_kept law one lexical named those listed stand closed files units trees are none q t sound j is =
-    each_kept law one lexical named those listed stand files units trees are none q t j is closed sound
+pub closed_kept : DeclarationsAreOne → ProgramsAreOne → TreesAreLexical → BodyVariablesAreOrdinary → ListedFieldsAreThose → ListedTablesAreMade → TablesOfProgramsStand → ClassesOfProgramsStand → EveryClosedCaseOfProgramsIsKept → ClosedFirstTasksAreKept
+closed_kept law one lexical named those listed stand classes closed files units trees are none q t sound j is =
+    each_kept law one lexical named those listed stand classes files units trees are none q t j is closed sound

@@ -6,13 +6,13 @@ use Rattle.jd_syntax.specs.JavaTrees.{JavaUnit}
 use Rattle.jd_jclasses.specs.Refusals.{AreClasses}
 use Rattle.jd_bodies.specs.Declarations.{Declarations}
 use Rattle.jd_declaration_laws.specs.Laws.{DeclarationsAreOne}
-use Rattle.jd_model.specs.ContractForms.{PlainContracts}
 use Rattle.jd_model.specs.Programs.{Body, Program}
 use Rattle.jd_sequent.specs.Obligations.{PlainObligation, PlainTask}
 use Rattle.jd_jml_meaning.specs.JmlCases.{JmlCase, JmlProgram}
 use Rattle.jd_jml_meaning.specs.Resolved.{JmlExpr}
 use Rattle.jd_programs.specs.Cases.{all_cases}
 use Rattle.jd_programs.specs.Programs.{IsProgram}
+use Rattle.jd_program_laws.specs.TaskClasses.{AreClassesOf, ClassesAreOne}
 use Rattle.jd_listed_tables.specs.Listed.{fields_along, tables}
 use Rattle.jd_case_obligations.specs.Listed.{case_obligation, variables_of_body}
 use Rattle.jd_one_program.specs.Laws.{ProgramsAreOne}
@@ -26,6 +26,7 @@ obligation_by units d p c b = case_obligation units p (fields_along units p.supe
 -- the task of a program's first case
 pub record IsTaskOf (units : List JavaUnit) (d : Declarations) (j : JmlProgram) (q : PlainTask) : Type 0 where
   pub form : is_first_form d units ≡ true
+  pub classes : AreClassesOf units q.classes
   pub contracts : q.contracts ≡ tables units d j.program j.own
   pub case : JmlCase
   pub first : j.case 0 ≡ Some case
@@ -61,6 +62,7 @@ module _ (law : DeclarationsAreOne) (one : ProgramsAreOne) (units : List JavaUni
       let c = alike_there (j.case 0) (without_family t.case) alike_first in
       record {
         form = ap (λ d. is_first_form d units) (sym declared) ∙ t.form;
+        classes = t.classes;
         contracts = t.contracts ∙ same_tables units t.is_program.declarations is.declarations t.program.program j.program t.program.own j.own declared programs.0 programs.1;
         case = c.0;
         first = c.1;
@@ -70,19 +72,19 @@ module _ (law : DeclarationsAreOne) (one : ProgramsAreOne) (units : List JavaUni
       }
 
 -- two tasks of one program
-abbrev made_of : PlainContracts → PlainObligation → PlainTask
-made_of c o = record { contracts = c; obligation = o }
-
 same_body : (f : ℕ → Option Body) (c k : JmlCase) (a b : Body) → c ≡ k → f c.body ≡ Some a → f k.body ≡ Some b → a ≡ b
 same_body f c k a b e u v = same_Some a b (sym u ∙ ap (λ (x : JmlCase). f x.body) e ∙ v)
 
-of_one : (units : List JavaUnit) (d : Declarations) (j : JmlProgram) (q r : PlainTask) → IsTaskOf units d j q → IsTaskOf units d j r → q ≡ r
-of_one units d j q r s t =
+of_one : ClassesAreOne → (units : List JavaUnit) (d : Declarations) (j : JmlProgram) (q r : PlainTask) → IsTaskOf units d j q → IsTaskOf units d j r → q ≡ r
+of_one classes units d j q r s t =
     let cases = same_Some s.case t.case (sym s.first ∙ t.first) in
     let bodies = same_body j.program.body s.case t.case s.body t.body cases s.runs t.runs in
-    ap₂ made_of (s.contracts ∙ sym t.contracts)
-    (s.obligation ∙ ap₂ (λ c b. obligation_by units d j.program c b) cases bodies ∙ sym t.obligation)
+    λ i. record {
+      classes = classes units q.classes r.classes s.classes t.classes i;
+      contracts = (s.contracts ∙ sym t.contracts) i;
+      obligation = (s.obligation ∙ ap₂ (λ c b. obligation_by units d j.program c b) cases bodies ∙ sym t.obligation) i;
+    }
 
-pub one_task : DeclarationsAreOne → ProgramsAreOne → (units : List JavaUnit) → AreClasses units → (q r : PlainTask) → IsFirstTask units q → IsFirstTask units r → q ≡ r
-one_task law one units are q r s t =
-    of_one units s.is_program.declarations s.program q r (moved law one units are q s s.program s.is_program) (moved law one units are r t s.program s.is_program)
+pub one_task : DeclarationsAreOne → ProgramsAreOne → ClassesAreOne → (units : List JavaUnit) → AreClasses units → (q r : PlainTask) → IsFirstTask units q → IsFirstTask units r → q ≡ r
+one_task law one classes units are q r s t =
+    of_one classes units s.is_program.declarations s.program q r (moved law one units are q s s.program s.is_program) (moved law one units are r t s.program s.is_program)

@@ -4,7 +4,9 @@ use jd_body_variables::body_variables_are_ordinary;
 use jd_declaration_laws::declarations_are_one;
 use jd_java_lexical::trees_are_lexical;
 use jd_one_program::programs_are_one;
-use jd_program_laws::every_closed_case_of_programs_is_kept;
+use jd_program_laws::{
+    classes_are_one, classes_of_programs_stand, every_closed_case_of_programs_is_kept,
+};
 use jd_program_tables::{
     listed_fields_are_those, listed_tables_are_made, tables_of_programs_stand,
 };
@@ -15,6 +17,7 @@ pub fn one_first_task()
 {
     programs_are_one();
     declarations_are_one();
+    classes_are_one();
 }
 
 /// Its sequent is sorted.
@@ -33,5 +36,6 @@ pub fn closed_first_tasks_are_kept()
     listed_fields_are_those();
     listed_tables_are_made();
     tables_of_programs_stand();
+    classes_of_programs_stand();
     every_closed_case_of_programs_is_kept();
 }

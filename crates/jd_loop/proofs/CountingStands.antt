@@ -1,8 +1,10 @@
 -- The counting task stands for its program, and the contracts there are usable.
-use Rattle.std.proofs.Common.{◌≡◌, ◌==◌, if◌then◌else◌, ℕ, zero, suc, pos, int_le, Bool, true, false, Some, None, [], ◌∷◌, refl, sym, ap, ◌∙◌, true≢false, arith}
+use Rattle.std.proofs.Common.{◌≡◌, ◌==◌, if◌then◌else◌, nat_eq, ℕ, zero, suc, pos, int_le, Bool, true, false, Option, Some, None, [], ◌∷◌, refl, sym, ap, subst, ◌∙◌, true≢false, arith}
 use Rattle.std.proofs.lemmas.Int.{ints}
 use Rattle.std.specs.Prelude.{slice_get}
 use Rattle.std.specs.List.{list_any}
+use Rattle.std.specs.Option.{unwrap_or}
+use Rattle.std.proofs.lemmas.Option.{none-some}
 use Rattle.std.proofs.lemmas.List.Elements.{All-from_recursion}
 use Rattle.jd_base.specs.declared.sort.Sort.TheVariants.{Int as IntSort}
 use Rattle.jd_syntax.specs.Names.{Declared}
@@ -21,8 +23,17 @@ use Rattle.jd_model.specs.KeptCases.{Usable}
 use Rattle.jd_model.specs.Tables.{members, CaseStandsFor, CaseAt, BodyAt, TablesStandFor}
 use Rattle.jd_model.proofs.States.{read_of}
 use Rattle.jd_model.proofs.Writes.{read_own}
+use Rattle.jd_model.specs.Cases.{Case, Static}
+use Rattle.jd_model.specs.Programs.{Body, is_subclass}
+use Rattle.jd_jinfos.specs.Infos.{PlainMethodInfo}
+use Rattle.jd_task_classes.proofs.OneClass.{one_class_stands}
+use Rattle.jd_task_classes.specs.Classes.{methods_of, of_routine}
+use Rattle.jd_task_classes.specs.Methods.{MethodOfCase, MethodsStandFor}
+use Rattle.jd_task_classes.specs.OneClass.{HaveResults, the_class}
+use Rattle.jd_task_classes.specs.ResolvedCalls.{CallsAreResolved, CaseFor, HasReceiver, ReceiverVariable}
+use Rattle.jd_task_classes.specs.Standing.{result_sort}
 use Rattle.jd_sequent.specs.TaskMeaning.{LoopIsKnown, TaskStandsFor}
-use Rattle.jd_loop.specs.CountingMethod.{n, i, int_result, n_constant, int_type, counting_body, counting_contract, counting_case, counting_program, counting_loop, counting_variables, counting_row, body_row, counting_tables}
+use Rattle.jd_loop.specs.CountingMethod.{n, i, int_result, n_constant, int_type, only_case, counting_body, counting_contract, counting_case, counting_methods, counting_program, counting_loop, counting_variables, counting_row, body_row, counting_tables}
 use Rattle.jd_loop.specs.CountingLoop.{counting_task, CountingStep}
 use Rattle.jd_loop.proofs.CountingLoop.{counting_instance}
 use Rattle.jd_loop.proofs.CountingValid.{counting_valid}
@@ -32,10 +43,10 @@ int_is h (IntValue z) o = refl
 int_is h v o = absurd o
 
 -- ---- the case's row
-entry_gives : (exactly : Bool) (d : ℕ) (j s : State) → AllTrue counting_program.setting d j s [] (members exactly counting_row.entry) → EntryAs counting_program.setting exactly counting_contract 0 (as_heap (read j entry_heap)) Null (read j n_constant ∷ [])
+entry_gives : (exactly : Bool) (d : ℕ) (j s : State) → AllTrue counting_program.setting d j s [] (members exactly counting_row.entry) → EntryAs counting_program.setting exactly counting_contract the_class (as_heap (read j entry_heap)) Null (read j n_constant ∷ [])
 entry_gives exactly d j s = by exactly
   where
-    made : (b : Bool) → AllTrue counting_program.setting d j s [] counting_row.entry → EntryAs counting_program.setting b counting_contract 0 (as_heap (read j entry_heap)) Null (read j n_constant ∷ [])
+    made : (b : Bool) → AllTrue counting_program.setting d j s [] counting_row.entry → EntryAs counting_program.setting b counting_contract the_class (as_heap (read j entry_heap)) Null (read j n_constant ∷ [])
     made b r = record {
       well_formed = r.0;
       receiver = refl;
@@ -45,14 +56,14 @@ entry_gives exactly d j s = by exactly
       fields = tt;
     }
 
-    by : (b : Bool) → AllTrue counting_program.setting d j s [] (members b counting_row.entry) → EntryAs counting_program.setting b counting_contract 0 (as_heap (read j entry_heap)) Null (read j n_constant ∷ [])
+    by : (b : Bool) → AllTrue counting_program.setting d j s [] (members b counting_row.entry) → EntryAs counting_program.setting b counting_contract the_class (as_heap (read j entry_heap)) Null (read j n_constant ∷ [])
     by true r = made true r
     by false r = made false r
 
-entry_from : (exactly : Bool) (d : ℕ) (j s : State) → EntryAs counting_program.setting exactly counting_contract 0 (as_heap (read j entry_heap)) Null (read j n_constant ∷ []) → AllTrue counting_program.setting d j s [] (members exactly counting_row.entry)
+entry_from : (exactly : Bool) (d : ℕ) (j s : State) → EntryAs counting_program.setting exactly counting_contract the_class (as_heap (read j entry_heap)) Null (read j n_constant ∷ []) → AllTrue counting_program.setting d j s [] (members exactly counting_row.entry)
 entry_from exactly d j s = by exactly
   where
-    made : (b : Bool) → EntryAs counting_program.setting b counting_contract 0 (as_heap (read j entry_heap)) Null (read j n_constant ∷ []) → AllTrue counting_program.setting d j s [] counting_row.entry
+    made : (b : Bool) → EntryAs counting_program.setting b counting_contract the_class (as_heap (read j entry_heap)) Null (read j n_constant ∷ []) → AllTrue counting_program.setting d j s [] counting_row.entry
     made b e = (
       e.well_formed,
       (
@@ -61,7 +72,7 @@ entry_from exactly d j s = by exactly
       ),
     )
 
-    by : (b : Bool) → EntryAs counting_program.setting b counting_contract 0 (as_heap (read j entry_heap)) Null (read j n_constant ∷ []) → AllTrue counting_program.setting d j s [] (members b counting_row.entry)
+    by : (b : Bool) → EntryAs counting_program.setting b counting_contract the_class (as_heap (read j entry_heap)) Null (read j n_constant ∷ []) → AllTrue counting_program.setting d j s [] (members b counting_row.entry)
     by true e = made true e
     by false e = made false e
 
@@ -125,8 +136,34 @@ known = record {
   variant = (refl, refl);
 }
 
+-- there is one case
+of_one : (P : Case → Type 0) → P counting_case → (κ : ℕ) (c : Case) → only_case κ ≡ Some c → P c
+of_one P h zero c e = subst P (ap (λ o. unwrap_or o counting_case) e) h
+of_one P h (suc κ) c e = absurd (none-some c e)
+
+methods : MethodsStandFor (methods_of counting_task.classes) counting_program
+methods = record {
+  cases = of_one (MethodOfCase (methods_of counting_task.classes)) (record { kind = tt; result = refl; family = refl });
+  reaches = λ κ ι c d e f. of_one (λ (a : Case). nat_eq a.family d.family ≡ true) (of_one (λ (b : Case). nat_eq 0 b.family ≡ true) refl ι d f) κ c e;
+  null_pointer = refl;
+}
+
+-- it has no receiver
+resolved : CallsAreResolved counting_program
+resolved = record {
+  own_body = of_one (λ (c : Case). c.body ≡ c.method) refl;
+  receiver_variable = of_one (λ (c : Case). (b : Body) → counting_program.setting.program.body c.body ≡ Some b → ReceiverVariable c.contract.role b.receiver) (λ b e. subst (λ (b : Body). ReceiverVariable Static b.receiver) (ap (λ o. unwrap_or o counting_body) e) tt);
+  not_object = of_one (λ (c : Case). HasReceiver c.contract.role → nat_eq c.class 0 ≡ false) (λ o. absurd o);
+  dispatched = of_one (λ (c : Case). HasReceiver c.contract.role → (class : ℕ) → is_subclass counting_program.setting.program class c.class ≡ true → CaseFor counting_program c class) (λ o class below. absurd o);
+}
+
+results : HaveResults counting_methods counting_program.setting.program.body
+results zero i b e f = ap (λ (o : Option Body). (unwrap_or o counting_body).result) (sym f) ∙ ap (λ (o : Option PlainMethodInfo). of_routine IntSort (λ (j : PlainMethodInfo). result_sort j.result) o) e
+results (suc m) i b e f = absurd (none-some i e)
+
 task : TaskStandsFor counting_task counting_program counting_case
 task = record {
+  classes = one_class_stands counting_methods counting_program.setting.program.body results counting_program refl methods resolved;
   tables = tables;
   case = record { index = 0; found = refl; class = refl; method = refl; number = refl };
   measure = refl;

@@ -4,6 +4,7 @@ use Rattle.std.specs.List.{AllByRecursion}
 use Rattle.std.proofs.lemmas.List.Elements.{recursion_from_All}
 use Rattle.jd_base.specs.declared.sort.Sort.{Sort}
 use Rattle.jd_base.specs.declared.sort.Sort.TheVariants.{Int as IntSort, Bool as BoolSort, Ref as RefSort, Heap as HeapSort, Field as FieldSort}
+use Rattle.jd_syntax.specs.AssignedVariables.{assigned_in_loop}
 use Rattle.jd_syntax.specs.Names.{Name, Declared}
 use Rattle.jd_syntax.specs.CodeNames.{same_name, heap_name}
 use Rattle.jd_syntax.specs.Codes.{Expr, While, PlainCode}
@@ -21,7 +22,6 @@ use Rattle.jd_model.specs.UpdatePlaces.{through, sequent_with, sequents_with}
 use Rattle.jd_model.specs.Bodies.{AllAssignNoHeap}
 use Rattle.jd_model.specs.BodyTables.{BodiesAssignNoHeap}
 use Rattle.jd_model.specs.Cases.{Case, SpecifiedProgram}
-use Rattle.jd_model.specs.AssignedVariables.{assigned_in_loop}
 use Rattle.jd_model.specs.Occurrences.{Always, CodeIn, TermIn, FormulaIn, FormulasIn, AllOf, member}
 use Rattle.jd_model.proofs.AssignedVariables.{Member, test_covered, body_covered, assigned_all}
 use Rattle.jd_model.proofs.BodyTables.{bodies_assign_no_heap}

@@ -15,9 +15,10 @@ use Rattle.jd_model.specs.Truth.{Setting}
 use Rattle.jd_model.specs.Validity.{AllValid}
 use Rattle.jd_model.specs.KeptCases.{Usable}
 use Rattle.jd_model.specs.BodyTables.{BodiesAssignNoHeap}
+use Rattle.jd_task_classes.specs.OneClass.{one_class, the_class}
 use Rattle.jd_sequent.specs.Obligations.{PlainTask}
 use Rattle.jd_sequent.specs.TaskMeaning.{TaskStandsFor}
-use Rattle.jd_loop.specs.CountingMethod.{int_named, n, i, t, int_result, n_constant, test, return_zero, method_with, counting_code, variant, counting_loop, counting_variables, counting_tables, counting_program, counting_case}
+use Rattle.jd_loop.specs.CountingMethod.{int_named, n, i, t, int_result, n_constant, test, return_zero, method_with, counting_code, variant, counting_loop, counting_variables, counting_tables, counting_methods, counting_program, counting_case}
 use Rattle.jd_loop.specs.LoopInstances.{IsLoopInstance}
 
 -- ---- the new names of the number 1
@@ -77,10 +78,11 @@ counting_place = record { side = Right; index = 1; path = 2 ∷ [] }
 -- the task
 abbrev pub counting_task : PlainTask
 counting_task = record {
+  classes = one_class counting_methods;
   contracts = counting_tables;
   obligation = record {
-    name = codes "C::f#1";
-    class = 0;
+    name = codes "Z::f#1";
+    class = the_class;
     method = 0;
     case = 1;
     vars = counting_variables;

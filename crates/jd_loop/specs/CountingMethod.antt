@@ -1,6 +1,7 @@
 -- A method that counts, its contract, and the tables that stand for its program.
 use Rattle.std.specs.Prelude.{ℕ, zero, suc, pos, true, false, ◌==◌, if◌then◌else◌, Option, Some, None, List, [], ◌∷◌, codes}
 use Rattle.jd_base.specs.declared.sort.Sort.TheVariants.{Int as IntSort}
+use Rattle.jd_syntax.specs.JavaTypes.{IntType}
 use Rattle.jd_syntax.specs.Names.{Name, Declared}
 use Rattle.jd_syntax.specs.CodeNames.{heap_name}
 use Rattle.jd_syntax.specs.Codes.{OfClass, Expr, IntLiteral, Variable, Binary, Set, While, Catch, Frame, Return, PlainCode, Done, Then}
@@ -11,9 +12,12 @@ use Rattle.jd_term.specs.Formulas.{And, Equal, LessOrEqual, InInt, WellFormed, I
 use Rattle.jd_model.specs.SpecialNames.{entry_heap, thrown_variable, result_variable}
 use Rattle.jd_model.specs.Contexts.{one}
 use Rattle.jd_model.specs.Conjunctions.{created_at}
-use Rattle.jd_model.specs.Programs.{IntType, Body, Program}
+use Rattle.jd_model.specs.Programs as model
+use Rattle.jd_model.specs.Programs.{Body}
 use Rattle.jd_model.specs.Cases.{DeclaredType, Static, AnyEnd, Contract, Case, SpecifiedProgram}
 use Rattle.jd_model.specs.ContractForms.{PlainCase, PlainBody, PlainContracts}
+use Rattle.jd_jinfos.specs.Infos.{PlainMethodInfo}
+use Rattle.jd_task_classes.specs.OneClass.{program_of, the_class}
 use Rattle.jd_sequent.specs.Obligations.{PlainLoop}
 
 -- ---- names
@@ -87,7 +91,7 @@ n_constant = int_named (codes "#i_n")
 
 -- `int`
 abbrev pub int_type : DeclaredType
-int_type = record { type = IntType; nullable = false }
+int_type = record { type = model.IntType; nullable = false }
 
 -- `requires 0 <= n; ensures \result == 0;`
 abbrev pub counting_contract : Contract
@@ -107,34 +111,21 @@ counting_contract = record {
 
 -- the method's one case
 abbrev pub counting_case : Case
-counting_case = record { contract = counting_contract; class = 0; method = 0; number = 1; body = 0; family = 0 }
+counting_case = record { contract = counting_contract; class = the_class; method = 0; number = 1; body = 0; family = 0 }
 
 -- the cases of the program
 abbrev pub only_case : ℕ → Option Case
 only_case zero = Some counting_case
 only_case (suc k) = None
 
--- one class, 0, and the thrown objects' class, 1; one method
-abbrev pub counting_classes : Program
-counting_classes = record {
-  superclasses = λ c. c ∷ [];
-  object = 0;
-  throwable = 1;
-  null_pointer = 1;
-  arithmetic = 1;
-  bounds = 1;
-  cast = 1;
-  negative_size = 1;
-  field_type = λ f. IntType;
-  has_field = λ c f. false;
-  lookup = λ c m. None;
-  body = λ m. if 0 == m then Some counting_body else None;
-}
+-- its method
+abbrev pub counting_methods : List PlainMethodInfo
+counting_methods = record { name = codes "f"; class = the_class; member = 0; static = true; constructor = false; params = IntType ∷ []; result = Some IntType } ∷ []
 
 -- the program with its case
 abbrev pub counting_program : SpecifiedProgram
 counting_program = record {
-  setting = record { program = counting_classes; invariants = λ c. [] };
+  setting = record { program = program_of counting_methods (λ m. if 0 == m then Some counting_body else None); invariants = λ c. [] };
   case = only_case;
   families = 1;
   reaches = λ a b. true;
@@ -153,7 +144,7 @@ counting_variables = int_declared n ∷ int_declared i ∷ int_declared t ∷ []
 abbrev pub counting_row : PlainCase
 counting_row = record {
   method = 0;
-  class = 0;
+  class = the_class;
   number = 1;
   entry = WellFormed (Constant entry_heap) ∷ (InInt (Constant n_constant) ∷ (LessOrEqual (Number (pos 0)) (Constant n_constant) ∷ []));
   exit = InInt (ProgramVariable int_result) ∷ (Equal (ProgramVariable int_result) (Number (pos 0)) ∷ []);

@@ -1,5 +1,6 @@
 -- The instances of the loop rule.
 use Rattle.std.specs.Prelude.{◌≡◌, ℕ, ◌+◌, ◌<◌, ◌^◌, ◌==◌, if◌then◌else◌, Option, Some, None, List, [], ◌∷◌, length}
+use Rattle.jd_syntax.specs.AssignedVariables.{assigned_in_loop}
 use Rattle.jd_syntax.specs.Codes.{Expr, While, PlainCode}
 use Rattle.jd_term.specs.declared.formula.Modality.{Modality}
 use Rattle.jd_term.specs.declared.formula.Modality.TheVariants as modalities
@@ -10,7 +11,6 @@ use Rattle.jd_model.specs.Contexts.{Context}
 use Rattle.jd_model.specs.Places.{put_at}
 use Rattle.jd_model.specs.UpdatePlaces.{IsUpdatePlace}
 use Rattle.jd_model.specs.InnermostFocus.{innermost_focus}
-use Rattle.jd_model.specs.AssignedVariables.{assigned_in_loop}
 use Rattle.jd_model.specs.Occurrences.{AllOf}
 use Rattle.jd_model.specs.Bodies.{NotHeap}
 use Rattle.jd_sequent.specs.Obligations.{PlainLoop, PlainTask}

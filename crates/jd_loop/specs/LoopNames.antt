@@ -4,7 +4,7 @@ use Rattle.std.specs.Fmt.{decimal}
 use Rattle.jd_base.specs.declared.sort.Sort.TheVariants.{Int as IntSort, Bool as BoolSort, Heap as HeapSort}
 use Rattle.jd_syntax.specs.Names.{Name}
 use Rattle.jd_syntax.specs.Codes.{Expr, PlainCode}
-use Rattle.jd_model.specs.AssignedVariables.{assigned_in_loop}
+use Rattle.jd_syntax.specs.AssignedVariables.{assigned_in_loop}
 use Rattle.jd_model.specs.NumberedNames.{numbered_variable, numbered_constant}
 
 -- a variable that the loop assigns, the new variable for its value before the loop, and the new constant for its value before a turn

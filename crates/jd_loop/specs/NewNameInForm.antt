@@ -13,6 +13,7 @@ use Rattle.jd_model.specs.Sequents.{PlainSequent, PlainPlace}
 use Rattle.jd_model.specs.Contexts.{Here, one}
 use Rattle.jd_model.specs.Truth.{Setting}
 use Rattle.jd_model.specs.Validity.{Valid, AllValid}
+use Rattle.jd_task_classes.specs.OneClass.{one_class, the_class}
 use Rattle.jd_sequent.specs.Obligations.{PlainLoop, PlainTask}
 use Rattle.jd_loop.specs.LoopNames.{LoopNames, loop_names}
 use Rattle.jd_loop.specs.LoopPremises.{first_premise, second_premise}
@@ -63,10 +64,11 @@ wrong_place = record { side = Right; index = 1; path = [] }
 -- the task, of which the loop names a constant that its obligation does not know
 abbrev pub wrong_task : PlainTask
 wrong_task = record {
+  classes = one_class [];
   contracts = record { cases = []; invariants = []; bodies = [] };
   obligation = record {
-    name = codes "C::f#1";
-    class = 0;
+    name = codes "Z::f#1";
+    class = the_class;
     method = 0;
     case = 1;
     vars = record { name = b; class = None } ∷ [];

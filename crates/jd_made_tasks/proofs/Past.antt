@@ -19,6 +19,8 @@ use Rattle.jd_case_clauses.specs.Said.{OneIsLarge}
 use Rattle.jd_case_clauses.specs.Whole.{IsTooLarge}
 use Rattle.jd_invariant_laws.specs.Laws.{InvariantsAreResolved}
 use Rattle.jd_one_program.specs.Laws.{ProgramsAreOne}
+use Rattle.jd_task_classes.specs.Classes.{PlainClasses}
+use Rattle.jd_program_laws.specs.TaskClasses.{AreClassesOf}
 use Rattle.jd_programs.specs.Cases.{all_cases}
 use Rattle.jd_programs.specs.Programs.{IsProgram, class_tree, invariants_of_tree}
 use Rattle.jd_listed_tables.specs.Listed.{fields_along, invariant_row, invariant_rows, tables}
@@ -57,7 +59,7 @@ module _ (law : InvariantsAreResolved) (units : List JavaUnit) (are : AreClasses
 
 -- ---- a case that is too large
 
-module _ (units : List JavaUnit) (are : AreClasses units) (j : JmlProgram) (is : IsProgram units j) (form : is_first_form is.declarations units ≡ true) where
+module _ (units : List JavaUnit) (are : AreClasses units) (j : JmlProgram) (is : IsProgram units j) (form : is_first_form is.declarations units ≡ true) (k : PlainClasses) (told : AreClassesOf units k) where
   abbrev d : Declarations
   d = is.declarations
 
@@ -97,12 +99,12 @@ module _ (units : List JavaUnit) (are : AreClasses units) (j : JmlProgram) (is :
       }
 
   abbrev task_with : JmlCase → Body → PlainTask
-  task_with c b = record { contracts = tables units d j.program j.own; obligation = case_obligation units j.program along c b (variables_of_body units d c.body) [] }
+  task_with c b = record { classes = k; contracts = tables units d j.program j.own; obligation = case_obligation units j.program along c b (variables_of_body units d c.body) [] }
 
   past_of : LargeClausesMakeLargeSequents → LargeCase → HasLargeTask units
   past_of law l = record {
     task = task_with l.case l.body;
-    is_task = record { program = j; is_program = is; form = form; contracts = refl; case = l.case; first = l.first; body = l.body; runs = l.runs; obligation = refl };
+    is_task = record { program = j; is_program = is; form = form; classes = told; contracts = refl; case = l.case; first = l.first; body = l.body; runs = l.runs; obligation = refl };
     past = law units j.program along l.case l.body l.large;
   }
 

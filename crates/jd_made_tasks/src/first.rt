@@ -10,6 +10,7 @@ ghost use Rattle.jd_model.specs.ContractForms.{contracts_view};
 ghost use Rattle.jd_programs.specs.Programs.{IsProgram};
 ghost use Rattle.jd_sequent.specs.Obligations.{PlainTask, obligation_view};
 ghost use Rattle.jd_syntax.specs.JavaTrees.{JavaUnit};
+ghost use Rattle.jd_task_classes.specs.Classes.{classes_view};
 
 use jd_base::{NoMemory, Sort};
 use jd_case_obligations::{Running, Untold, obligation};
@@ -18,6 +19,7 @@ use jd_declaration_laws::declarations_are_one;
 use jd_frame_laws::frames_fit;
 use jd_model::Contracts;
 use jd_one_program::programs_are_one;
+use jd_program_laws::tables_are_classes;
 use jd_program_tables::listed_tables_are_made;
 use jd_sequent::Obligation;
 use std::alloc::Global;
@@ -34,8 +36,9 @@ pub(crate) fn first_obligation(
 ) -> Result<Option<Obligation>, NoMemory>
     requires { AreOfForm classes.now (contracts_view contracts.now) }
     ensures { (units : List JavaUnit) (j : JmlProgram) (is : IsProgram units j) → AreTables units classes.now → is_first_form is.declarations units ≡ true → AreTabled units j is (contracts_view contracts.now)
-        → IfOk result (λ r. MatchOption r ((q : PlainTask) → IsFirstTask units q → ⊥) (λ o. IsFirstTask units (record { contracts = contracts_view contracts.now; obligation = obligation_view o }))) }
+        → IfOk result (λ r. MatchOption r ((q : PlainTask) → IsFirstTask units q → ⊥) (λ o. IsFirstTask units (record { classes = classes_view classes.now; contracts = contracts_view contracts.now; obligation = obligation_view o }))) }
 {
+    tables_are_classes();
     declarations_are_one();
     programs_are_one();
     listed_tables_are_made();

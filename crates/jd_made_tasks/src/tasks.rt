@@ -2,6 +2,7 @@
 
 ghost use Rattle.std.specs.Prelude.{◌≡◌, IfOk, List, length, true};
 ghost use Rattle.jd_classes.specs.Tables.{AreTables};
+ghost use Rattle.jd_classes.specs.declared.classes.Classes.{Classes as Tables};
 ghost use Rattle.jd_first_form.specs.Forms.{is_first_form};
 ghost use Rattle.jd_first_tasks.specs.Tasks.{IsFirstTask};
 ghost use Rattle.jd_jml_meaning.specs.JmlCases.{JmlProgram};
@@ -25,7 +26,7 @@ use jd_large_obligations::large_clauses_make_large_sequents;
 use jd_lists::discard;
 use jd_model::Contracts;
 use jd_naming::Declares;
-use jd_program_laws::programs_have_meanings;
+use jd_program_laws::{programs_have_meanings, tables_are_classes};
 use jd_refusals::Resolved;
 use jd_sequent::{Obligation, is_within_limits};
 use std::alloc::Global;
@@ -52,7 +53,7 @@ pub enum FirstTask {
 
 // A task, where its sequent is within the limits.
 fn within(made: Made) -> FirstTask
-    ensures { (units : List JavaUnit) → IsFirstTask units (made_view made) → IsFirstAnswer units result }
+    ensures { (c : Tables) (units : List JavaUnit) → IsFirstTask units (made_view c made) → IsFirstAnswer units c result }
 {
     if is_within_limits(&made.obligation.sequent) {
         FirstTask::Task(made)
@@ -69,7 +70,7 @@ fn with_contracts(
     contracts: Contracts,
 ) -> Result<FirstTask, NoMemory>
     requires { AreOfForm classes.now (contracts_view contracts) }
-    ensures { (units : List JavaUnit) (j : JmlProgram) (is : IsProgram units j) → AreTables units classes.now → is_first_form is.declarations units ≡ true → AreTabled units j is (contracts_view contracts) → IfOk result (IsFirstAnswer units) }
+    ensures { (units : List JavaUnit) (j : JmlProgram) (is : IsProgram units j) → AreTables units classes.now → is_first_form is.declarations units ≡ true → AreTabled units j is (contracts_view contracts) → IfOk result (IsFirstAnswer units classes.now) }
 {
     match first_obligation(alloc, classes, &contracts) {
         Ok(Some(obligation)) => Ok(within(Made {
@@ -95,8 +96,9 @@ fn of_form<D: Declares>(
     resolved: &Resolved,
 ) -> Result<FirstTask, NoMemory>
     requires { IsOfForm (D.declarations d.now) classes.now resolved.now }
-    ensures { (units : List JavaUnit) (j : JmlProgram) (is : IsProgram units j) → AreTables units classes.now → AreResolved units resolved.now → is.declarations ≡ D.declarations d.now → is_first_form is.declarations units ≡ true → IfOk result (IsFirstAnswer units) }
+    ensures { (units : List JavaUnit) (j : JmlProgram) (is : IsProgram units j) → AreTables units classes.now → AreResolved units resolved.now → is.declarations ≡ D.declarations d.now → is_first_form is.declarations units ≡ true → IfOk result (IsFirstAnswer units classes.now) }
 {
+    tables_are_classes();
     invariants_are_resolved();
     large_clauses_make_large_sequents();
     match contracts(alloc, d, classes, resolved) {
@@ -118,7 +120,7 @@ pub fn first_task(
     resolved: &Resolved,
 ) -> Result<FirstTask, NoMemory>
     requires { (units : List JavaUnit) × AreTables units classes.now × (files ≡ length units) × AreResolved units resolved.now }
-    ensures { (units : List JavaUnit) → AreTables units classes.now → files ≡ length units → AreResolved units resolved.now → IfOk result (IsFirstAnswer units) }
+    ensures { (units : List JavaUnit) → AreTables units classes.now → files ≡ length units → AreResolved units resolved.now → IfOk result (IsFirstAnswer units classes.now) }
 {
     declarations_are_one();
     programs_have_meanings();

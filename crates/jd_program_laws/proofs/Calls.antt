@@ -1,28 +1,34 @@
 -- The body that a call runs has a case for each case of the method that is called.
-use Rattle.std.proofs.Common.{◌≡◌, ◌⊎◌, inl, inr, ◌<◌, ◌+◌, ℕ, suc, Bool, true, false, not, ◌||◌, cond, nat_eq, List, [], length, map, flat_map, Option, Some, None, option_map, refl, sym, ap, subst, ◌∙◌, arith, MatchOption}
+use Rattle.std.proofs.Common.{◌≡◌, ◌⊎◌, inl, inr, ◌<◌, ◌+◌, ℕ, suc, Bool, true, false, not, ◌||◌, cond, nat_eq, if◌then◌else◌, List, [], length, map, flat_map, Option, Some, None, option_map, refl, sym, ap, subst, ◌∙◌, arith, MatchOption}
 use Rattle.std.specs.List.{range_with_len, slice_get}
 use Rattle.std.specs.Option.{option_and_then}
 use Rattle.std.proofs.lemmas.Option.{same_Some, none-some}
 use Rattle.jd_ancestry.specs.Laws.{AboveIsTransitive}
+use Rattle.jd_base.specs.declared.sort.Sort.TheVariants.{Ref as RefSort}
+use Rattle.jd_syntax.specs.JavaTypes.{PlainType, IntType, BooleanType, IntArrayType, NamedType}
 use Rattle.jd_syntax.specs.JavaTrees.{JavaMethod, JavaResult, Void, Gives, OfConstructor, JavaUnit}
 use Rattle.jd_jclasses.specs.Classes.{IsAncestor, IsSubclass, declared_classes, parents, prelude_count}
 use Rattle.jd_jclasses.specs.Laws.{OneMethod}
-use Rattle.jd_jclasses.specs.Members.{Declared, Kind, FieldOf, ConstantOf, RoutineOf, declared_members, is_constructor, is_method, is_static}
+use Rattle.jd_jclasses.specs.Members.{Declared, Kind, FieldOf, ConstantOf, RoutineOf, declared_members, is_constructor, is_method, is_static, result_of, result_type}
 use Rattle.jd_jclasses.specs.Members as members
 use Rattle.jd_jclasses.specs.Methods.{IsSeen, SeesNone, SameFamily, routines}
 use Rattle.jd_jclasses.specs.Methods.SameFamily.{its_own, over}
 use Rattle.jd_jclasses.specs.Refusals.{AreClasses}
-use Rattle.jd_jinfos.specs.Infos.{PlainOwnMembers, own_nothing, own_of}
+use Rattle.jd_jinfos.specs.Infos.{PlainMethodInfo, PlainOwnMembers, method_info, own_nothing, own_of}
 use Rattle.jd_jinfos.proofs.Together.{own_in_infos}
 use Rattle.jd_model.specs.Cases.{Case, Role, Static, Ordinary, Helper, ConstructorOf}
-use Rattle.jd_model.specs.Programs.{Body, Program}
-use Rattle.jd_call.specs.ResolvedCalls.{CallsAreResolved, CaseFor, HasReceiver, ReceiverVariable, body_on}
-use Rattle.jd_bodies.specs.Declarations.{Declarations}
+use Rattle.jd_model.specs.Programs.{Body, Program, type_sort}
+use Rattle.jd_names.specs.Tables.{sort_of}
+use Rattle.jd_task_classes.specs.Classes.{kind_of, result_of as sort_given}
+use Rattle.jd_names.proofs.Seeing.{no_constructor}
+use Rattle.jd_task_classes.specs.Methods.{Constructor, InstanceMethod, IsKindOf, IsResultSort, StaticMethod}
+use Rattle.jd_task_classes.specs.ResolvedCalls.{CallsAreResolved, CaseFor, HasReceiver, ReceiverVariable, body_on}
+use Rattle.jd_bodies.specs.Declarations.{Declarations, class_type, type_by}
 use Rattle.jd_bodies.specs.Variables.{this_name}
 use Rattle.jd_jml_meaning.specs.JmlContracts.{JmlContract}
 use Rattle.jd_jml_meaning.specs.ContractFormulas.{contract_of}
 use Rattle.jd_jml_meaning.specs.JmlCases.{JmlCase, JmlProgram, case_of, specified}
-use Rattle.jd_specifications.specs.WrittenCases.{cases_of, contract, has_mark, is_helper, role}
+use Rattle.jd_specifications.specs.WrittenCases.{cases_of, contract, has_mark, is_helper, is_nullable, role}
 use Rattle.jd_specifications.specs.WrittenCases as written
 use Rattle.jd_programs.specs.Cases.{all_cases, contracts_in, contracts_of_declared, contracts_of_kind, inherited, written_at}
 use Rattle.jd_programs.specs.Members.{declared_as, declared_static, firsts, members_along, members_from, methods_seen, name_of, own, routine_name, static_routine}
@@ -34,7 +40,7 @@ use Rattle.jd_program_laws.proofs.Cases.Origin.{of_constructor, of_method}
 use Rattle.jd_program_laws.proofs.Families.{known, seen_there, sees}
 use Rattle.jd_program_laws.proofs.Lineages.{above_it, below_below, in_classes, in_lineage, only_object, through}
 use Rattle.jd_program_laws.proofs.Lists.{among, from_flat, in_flat, same_number}
-use Rattle.jd_program_laws.proofs.Members.{OwnMethod, both_static, declared_there, one_in_class, one_of_name, method_owned, own_constructor}
+use Rattle.jd_program_laws.proofs.Members.{OwnMethod, both_given, both_static, declared_there, one_in_class, one_of_name, method_owned, own_constructor}
 
 -- ---- roles
 
@@ -65,17 +71,19 @@ record WrittenAt (d : Declarations) (r : Declared) (x : JmlContract) : Type 0 wh
   tree : JavaMethod
   kind : r.kind ≡ RoutineOf tree
   role_ : x.role ≡ role d r.class tree
+  nullable : Bool
+  result_ : x.result ≡ written.result d tree.result nullable
 
-written_there : (d : Declarations) (class : ℕ) (k : Kind) (x : JmlContract) → In x (contracts_of_kind d class k) → (m : JavaMethod) × (k ≡ RoutineOf m) × (x.role ≡ role d class m)
+written_there : (d : Declarations) (class : ℕ) (k : Kind) (x : JmlContract) → In x (contracts_of_kind d class k) → (m : JavaMethod) × (k ≡ RoutineOf m) × (x.role ≡ role d class m) × (x.result ≡ written.result d m.result (has_mark is_nullable m.specs))
 written_there d class (FieldOf t) x h = absurd h
 written_there d class (ConstantOf n) x h = absurd h
-written_there d class (RoutineOf m) x h = let r = in_map (contract d class m) (cases_of m.specs) x h in (m, refl, ap (λ (c : JmlContract). c.role) (sym r.2))
+written_there d class (RoutineOf m) x h = let r = in_map (contract d class m) (cases_of m.specs) x h in (m, refl, ap (λ (c : JmlContract). c.role) (sym r.2), ap (λ (c : JmlContract). c.result) (sym r.2))
 
 written_at_it : (d : Declarations) (o : Option Declared) (r : Declared) (x : JmlContract) → o ≡ Some r → In x (contracts_of_declared d o) → WrittenAt d r x
 written_at_it d None r x e h = absurd h
 written_at_it d (Some q) r x e h =
     let w = written_there d q.class q.kind x h in
-    subst (λ (s : Declared). WrittenAt d s x) (same_Some q r e) (record { tree = w.0; kind = w.1; role_ = w.2 })
+    subst (λ (s : Declared). WrittenAt d s x) (same_Some q r e) (record { tree = w.0; kind = w.1; role_ = w.2; nullable = has_mark is_nullable w.0.specs; result_ = w.3 })
 
 of_constructor_role : (d : Declarations) (r : Declared) (x : JmlContract) → is_constructor r.kind ≡ true → WrittenAt d r x → x.role ≡ ConstructorOf r.class
 of_constructor_role d r x e w = w.role_ ∙ role_by d r.class w.tree true w.tree.is_static (sym (ap is_constructor w.kind) ∙ e) refl
@@ -87,6 +95,27 @@ of_instance_role : (d : Declarations) (r : Declared) (x : JmlContract) → is_me
 of_instance_role d r x e s w =
     ordinary (has_mark is_helper w.tree.specs) x.role
     (w.role_ ∙ role_by d r.class w.tree false false (not_false (members.builds w.tree.result) (sym (ap is_method w.kind) ∙ e)) (sym (ap is_static w.kind) ∙ s))
+
+-- its result has the sort of the routine's
+model_sort : (d : Declarations) (t : PlainType) → sort_of t ≡ type_sort (written.model_type d (type_by d.class_named t))
+model_sort d IntType = refl
+model_sort d BooleanType = refl
+model_sort d IntArrayType = refl
+model_sort d (NamedType x) = by (d.class_named x)
+  where
+    by : (o : Option ℕ) → RefSort ≡ type_sort (written.model_type d (class_type o))
+    by None = refl
+    by (Some c) = refl
+
+given_sort : (d : Declarations) (r : JavaResult) (nullable : Bool) → IsResultSort (option_map sort_of (result_type r)) (written.result d r nullable)
+given_sort d Void nullable = tt
+given_sort d (Gives w) nullable = model_sort d w.written
+given_sort d OfConstructor nullable = tt
+
+of_result : (d : Declarations) (r : Declared) (x : JmlContract) → WrittenAt d r x → IsResultSort (option_map sort_of (result_of r.kind)) x.result
+of_result d r x w =
+    subst (λ k. IsResultSort (option_map sort_of (result_of k)) x.result) (sym w.kind)
+    (subst (IsResultSort (option_map sort_of (result_type w.tree.result))) (sym w.result_) (given_sort d w.tree.result w.nullable))
 
 -- ---- classes that are always there
 
@@ -166,6 +195,87 @@ module _ (units : List JavaUnit) (are : AreClasses units) (not_static : Construc
       let n = seen_there units j is c m among_ in
       let s = method_seen c (routine_name units n.named) m (sees units j is c lt m n) in
       knows_method c m x s (is_static s.it.kind) refl (subst (λ b. In x (cond b (written_at units lineage d m) (inherited units lineage d c m))) (ap declared_static s.there) has)
+
+  -- ---- what the tables tell of the method of a case
+
+  record Told (m : ℕ) (x : JmlContract) : Type 0 where
+    it : Declared
+    there : slice_get (routines units) m ≡ Some it
+    kind : IsKindOf (kind_of (method_info it)) x.role
+    result : IsResultSort (option_map sort_of (result_of it.kind)) x.result
+
+  kind_told : (i : PlainMethodInfo) (b s : Bool) → i.constructor ≡ b → i.static ≡ s → (r q : Role) → r ≡ q → IsKindOf (if b then Constructor else if s then StaticMethod else InstanceMethod) q → IsKindOf (kind_of i) r
+  kind_told i b s e f r q g h =
+      subst (IsKindOf (kind_of i)) (sym g)
+      (subst (λ k. IsKindOf k q) (sym (ap (λ x. if x then Constructor else if i.static then StaticMethod else InstanceMethod) e ∙ ap (λ x. if b then Constructor else if x then StaticMethod else InstanceMethod) f)) h)
+
+  ordinary_kind : (r : Role) → IsOrdinary r → IsKindOf InstanceMethod r
+  ordinary_kind r (inl e) = subst (IsKindOf InstanceMethod) (sym e) tt
+  ordinary_kind r (inr e) = subst (IsKindOf InstanceMethod) (sym e) tt
+
+  constructs_none : (r : Declared) → is_method r.kind ≡ true → is_constructor r.kind ≡ false
+  constructs_none r e = not_false (is_constructor r.kind) (no_constructor r.kind e)
+
+  told_method : (c m : ℕ) (x : JmlContract) (s : Method c m) (b : Bool) → is_static s.it.kind ≡ b → In x (cond b (written_at units lineage d m) (inherited units lineage d c m)) → Told m x
+  told_method c m x s true e h =
+      let w = written_at_it d (slice_get (routines units) m) s.it x s.there h in
+      record {
+        it = s.it;
+        there = s.there;
+        kind = kind_told (method_info s.it) false true (constructs_none s.it s.method) e x.role Static (of_static_role d s.it x s.method e w) tt;
+        result = of_result d s.it x w;
+      }
+  told_method c m x s false e h =
+      let r = from_flat (written_at units lineage d) (flat_map (declared_as units (routine_name units m)) (lineage c)) x h in
+      let q = from_flat (declared_as units (routine_name units m)) (lineage c) r.0 r.1 in
+      let o = declared_there units q.0 m r.0 q.2 in
+      let up = s.nearest q.0 r.0 (above_it units p is.classes c q.0 q.1) o.0 o.1 in
+      let same = both_static units one are s.owner q.0 m r.0 (own_of_method c m s) o.0 o.1 up in
+      let w = written_at_it d (slice_get (routines units) r.0) o.0.it x o.0.there r.2 in
+      record {
+        it = s.it;
+        there = s.there;
+        kind = kind_told (method_info s.it) false false (constructs_none s.it s.method) e x.role x.role refl (ordinary_kind x.role (of_instance_role d o.0.it x o.0.method (sym same ∙ e) w));
+        result = subst (λ k. IsResultSort k x.result) (sym (both_given units one are s.owner q.0 m r.0 (own_of_method c m s) o.0 o.1 up)) (of_result d o.0.it x w);
+      }
+
+  told : (c m : ℕ) (x : JmlContract) → c < length (parents units) → Origin units lineage d family c m x → Told m x
+  told c m x lt (of_constructor run has) =
+      let r = in_filter_map (λ a. (own units a).constructor) (lineage c) m run in
+      let o = own_constructor units r.from m r.gives in
+      let w = written_at_it d (slice_get (routines units) m) o.it x o.there has in
+      record {
+        it = o.it;
+        there = o.there;
+        kind = kind_told (method_info o.it) true (is_static o.it.kind) o.constructor refl x.role (ConstructorOf o.it.class) (of_constructor_role d o.it x o.constructor w) tt;
+        result = of_result d o.it x w;
+      }
+  told c m x lt (of_method among_ has) =
+      let n = seen_there units j is c m among_ in
+      let s = method_seen c (routine_name units n.named) m (sees units j is c lt m n) in
+      told_method c m x s (is_static s.it.kind) refl (subst (λ b. In x (cond b (written_at units lineage d m) (inherited units lineage d c m))) (ap declared_static s.there) has)
+
+  pub record CaseTold (c : Case) : Type 0 where
+    pub it : Declared
+    pub there : slice_get (routines units) c.method ≡ Some it
+    pub kind : IsKindOf (kind_of (method_info it)) c.contract.role
+    pub result : IsResultSort (sort_given (method_info it)) c.contract.result
+    pub family_ : c.family ≡ family c.method
+
+  told_case : (k : JmlCase) → In k (all_cases units lineage d family) → CaseTold (case_of p k)
+  told_case k among_ =
+      let o = comes units lineage d family k among_ in
+      let t = told o.c o.m o.x o.is_class o.origin in
+      record {
+        it = t.it;
+        there = ap (slice_get (routines units)) o.is.method ∙ t.there;
+        kind = subst (λ (x : JmlContract). IsKindOf (kind_of (method_info t.it)) x.role) (sym o.is.contract) t.kind;
+        result = subst (λ (x : JmlContract). IsResultSort (sort_given (method_info t.it)) x.result) (sym o.is.contract) t.result;
+        family_ = o.is.family_ ∙ ap family (sym o.is.method);
+      }
+
+  pub case_told : (κ : ℕ) (c : Case) → (specified j).case κ ≡ Some c → CaseTold c
+  case_told κ c e = let k = known units j is κ c e in subst CaseTold (sym k.same) (told_case k.case k.among)
 
   -- ---- receivers
 

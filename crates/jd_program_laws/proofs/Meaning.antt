@@ -16,9 +16,6 @@ use Rattle.jd_reach.specs.Paths.{ReachesBy}
 use Rattle.jd_reach.specs.Paths.ReachesBy.{reaches_by_edge, reaches_itself}
 use Rattle.jd_syntax.specs.JavaTypes.{PlainType}
 use Rattle.jd_syntax.specs.JavaTrees.{JavaUnit}
-use Rattle.jd_jclasses.specs.CallGraph.{Calls}
-use Rattle.jd_jclasses.specs.CallGraph.Calls.{unwritten, written}
-use Rattle.jd_jclasses.specs.CallGraph.CountsFor.{by_name, by_new, by_super}
 use Rattle.jd_jclasses.specs.Classes.{parents}
 use Rattle.jd_jclasses.specs.Members.{Declared, Kind, FieldOf, ConstantOf, RoutineOf}
 use Rattle.jd_jclasses.specs.Methods.{IsSeen, SeesNone, fields, routines}
@@ -31,6 +28,7 @@ use Rattle.jd_model.specs.Programs as model
 use Rattle.jd_bodies.specs.Declarations.{AreDeclarations, Declarations, type_by}
 use Rattle.jd_jml_meaning.specs.JmlCases.{JmlProgram}
 use Rattle.jd_specifications.specs.WrittenCases.{model_type}
+use Rattle.jd_program_laws.proofs.OneFamilies.{ends}
 use Rattle.jd_programs.specs.Cases.{all_cases}
 use Rattle.jd_programs.specs.Programs.{HasClasses, IsProgram, body_of_declared, class_tree, declared_along, invariants_of_tree}
 
@@ -217,14 +215,8 @@ module _ (law : ParentsAreClasses) (of_classes : MembersAreOfClasses) (members :
   of_families : (a b : ℕ) → calls a b ≡ true → (a < t.families.count) × (b < t.families.count)
   of_families a b e =
       let f = (tables.graph_.calls.1 a b).0 e in
-      let c = ends f.m f.n f.calls in
+      let c = ends units f.m f.n f.calls in
       (subst (λ x. x < t.families.count) f.of_one (tables.families_.below f.m c.0 c.1), subst (λ x. x < t.families.count) f.of_other (tables.families_.below f.n c.2 c.3))
-    where
-      ends : (m n : ℕ) → Calls units m n → (r : Declared) × (slice_get (routines units) m ≡ Some r) × (s : Declared) × (slice_get (routines units) n ≡ Some s)
-      ends m n (written caller c there among (by_name name at)) = (caller, there, at.routine, at.there)
-      ends m n (written caller c there among (by_new name class named for)) = (caller, there, for.declared.routine, for.declared.there)
-      ends m n (written caller c there among (by_super above)) = (caller, there, above.runs.declared.routine, above.runs.declared.there)
-      ends m n (unwritten caller there is none above) = (caller, there, above.runs.declared.routine, above.runs.declared.there)
 
   reached : (a b : ℕ) → ReachesBy calls a b → (a ≡ b) ⊎ ((a < t.families.count) × (b < t.families.count))
   reached a b (reaches_itself _) = inl refl

@@ -1,16 +1,18 @@
 -- What classes declare themselves, and which methods are members of them.
-use Rattle.std.proofs.Common.{◌≡◌, ◌≢◌, ◌⊎◌, ◌&&◌, ◌||◌, inl, inr, ⊎_elim, ℕ, ◌+◌, Bool, true, false, nat_eq, List, [], ◌∷◌, if◌then◌else◌, bytes_eq, Some, refl, sym, ap, subst, ◌∙◌, arith}
+use Rattle.std.proofs.Common.{◌≡◌, ◌≢◌, ◌⊎◌, ◌&&◌, ◌||◌, inl, inr, ⊎_elim, ℕ, ◌+◌, Bool, true, false, nat_eq, List, [], ◌∷◌, if◌then◌else◌, bytes_eq, Option, Some, None, option_map, refl, sym, ap, subst, ◌∙◌, arith}
 use Rattle.std.specs.List.{list_any, slice_get}
 use Rattle.std.proofs.lemmas.Bool.Decides.{nat_tests}
 use Rattle.std.proofs.lemmas.Option.{same_Some}
 use Rattle.std.proofs.lemmas.Slice.Eq.{bytes_eq-Decides}
 use Rattle.jd_syntax.specs.JavaTrees.{JavaUnit}
+use Rattle.jd_syntax.specs.JavaTypes.{PlainType, IntType, BooleanType, IntArrayType, NamedType}
 use Rattle.jd_jclasses.specs.Classes.{IsAncestor, IsSubclass}
 use Rattle.jd_jclasses.specs.Laws.{OneMethod}
-use Rattle.jd_jclasses.specs.Members.{Declared, is_constructor, is_method, is_static}
+use Rattle.jd_jclasses.specs.Members.{Declared, is_constructor, is_method, is_static, result_of}
 use Rattle.jd_jclasses.specs.Methods.{Declares, IsSeen, routines}
 use Rattle.jd_jclasses.specs.Refusals.{AreClasses}
 use Rattle.jd_jinfos.specs.Infos.{is_constructor_of, is_method_of, is_of}
+use Rattle.jd_names.specs.Tables.{sort_of}
 use Rattle.jd_jseen.proofs.Routines.{routines_are_members}
 use Rattle.jd_programs.specs.Members.{declared_as, firsts, name_of, own, routine_name}
 use Rattle.jd_declared.proofs.Declaring.{has_number, numbered}
@@ -129,23 +131,58 @@ module _ (units : List JavaUnit) where
   differ true false h = absurd (h (λ e. cc))
   differ false true h = absurd (h (λ e. cc))
 
-  pub both_static : OneMethod → AreClasses units → (a b m n : ℕ) (o : OwnMethod a m) (p : OwnMethod b n) → routine_name units n ≡ routine_name units m → IsSubclass units a b → is_static o.it.kind ≡ is_static p.it.kind
-  both_static law are a b m n o p e (inl same) =
-      let q : OwnMethod a n = record { it = p.it; there = p.there; method = p.method; class = p.class ∙ sym same } in
-      let one = one_in_class law are a m n o q e in
-      ap (λ (r : Declared). is_static r.kind) (same_Some o.it p.it (sym o.there ∙ ap (slice_get (routines units)) one ∙ p.there))
-  both_static law are a b m n o p e (inr above) =
-      let one = routines_are_members units m o.it o.there in
-      let other = routines_are_members units n p.it p.there in
-      sym (differ (is_static p.it.kind) (is_static o.it.kind) (λ apart. are.members.overrides one.0 (record {
-        place = other.0;
-        other = p.it;
-        one = o.it;
-        other_there = other.1;
-        there = one.1;
-        holds = (
-          subst (λ x. IsAncestor units x o.it.class) (sym p.class) (subst (IsAncestor units b) (sym o.class) above),
-          (p.method, o.method, ap name_of (sym p.there) ∙ e ∙ ap name_of o.there),
-          inr apart,
-        );
-      })))
+  same_sorts : (a b : Option PlainType) → ((a ≢ b) → ⊥) → option_map sort_of a ≡ option_map sort_of b
+  same_sorts None None h = refl
+  same_sorts None (Some t) h = absurd (h (λ e. cc))
+  same_sorts (Some s) None h = absurd (h (λ e. cc))
+  same_sorts (Some IntType) (Some IntType) h = refl
+  same_sorts (Some IntType) (Some BooleanType) h = absurd (h (λ e. cc))
+  same_sorts (Some IntType) (Some IntArrayType) h = absurd (h (λ e. cc))
+  same_sorts (Some IntType) (Some (NamedType y)) h = absurd (h (λ e. cc))
+  same_sorts (Some BooleanType) (Some IntType) h = absurd (h (λ e. cc))
+  same_sorts (Some BooleanType) (Some BooleanType) h = refl
+  same_sorts (Some BooleanType) (Some IntArrayType) h = absurd (h (λ e. cc))
+  same_sorts (Some BooleanType) (Some (NamedType y)) h = absurd (h (λ e. cc))
+  same_sorts (Some IntArrayType) (Some IntType) h = absurd (h (λ e. cc))
+  same_sorts (Some IntArrayType) (Some BooleanType) h = absurd (h (λ e. cc))
+  same_sorts (Some IntArrayType) (Some IntArrayType) h = refl
+  same_sorts (Some IntArrayType) (Some (NamedType y)) h = refl
+  same_sorts (Some (NamedType x)) (Some IntType) h = absurd (h (λ e. cc))
+  same_sorts (Some (NamedType x)) (Some BooleanType) h = absurd (h (λ e. cc))
+  same_sorts (Some (NamedType x)) (Some IntArrayType) h = refl
+  same_sorts (Some (NamedType x)) (Some (NamedType y)) h = refl
+
+  module _ (law : OneMethod) (are : AreClasses units) (a b m n : ℕ) (o : OwnMethod a m) (p : OwnMethod b n) (e : routine_name units n ≡ routine_name units m) where
+    -- in one class they are one
+    same_method : a ≡ b → o.it ≡ p.it
+    same_method same =
+        let q : OwnMethod a n = record { it = p.it; there = p.there; method = p.method; class = p.class ∙ sym same } in
+        let one = one_in_class law are a m n o q e in
+        same_Some o.it p.it (sym o.there ∙ ap (slice_get (routines units)) one ∙ p.there)
+
+    -- and one overrides the other as it may
+    not_bad : IsAncestor units b a → ((result_of p.it.kind ≢ result_of o.it.kind) ⊎ (is_static p.it.kind ≢ is_static o.it.kind)) → ⊥
+    not_bad above apart =
+        let one = routines_are_members units m o.it o.there in
+        let other = routines_are_members units n p.it p.there in
+        are.members.overrides one.0 (record {
+          place = other.0;
+          other = p.it;
+          one = o.it;
+          other_there = other.1;
+          there = one.1;
+          holds = (
+            subst (λ x. IsAncestor units x o.it.class) (sym p.class) (subst (IsAncestor units b) (sym o.class) above),
+            (p.method, o.method, ap name_of (sym p.there) ∙ e ∙ ap name_of o.there),
+            apart,
+          );
+        })
+
+    pub both_static : IsSubclass units a b → is_static o.it.kind ≡ is_static p.it.kind
+    both_static (inl same) = ap (λ (r : Declared). is_static r.kind) (same_method same)
+    both_static (inr above) = sym (differ (is_static p.it.kind) (is_static o.it.kind) (λ apart. not_bad above (inr apart)))
+
+    -- they give values of one sort
+    pub both_given : IsSubclass units a b → option_map sort_of (result_of o.it.kind) ≡ option_map sort_of (result_of p.it.kind)
+    both_given (inl same) = ap (λ (r : Declared). option_map sort_of (result_of r.kind)) (same_method same)
+    both_given (inr above) = sym (same_sorts (result_of p.it.kind) (result_of o.it.kind) (λ apart. not_bad above (inl apart)))

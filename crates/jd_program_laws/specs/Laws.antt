@@ -18,7 +18,7 @@ use Rattle.jd_model.specs.Sequents.{PlainSequent}
 use Rattle.jd_model.specs.Tables.{TablesStandFor}
 use Rattle.jd_sequent.specs.TaskMeaning.{StepIsSoundIn}
 use Rattle.jd_oblig.specs.KeptByObligations.{IsMadeOfRow, IsReachability}
-use Rattle.jd_call.specs.ResolvedCalls.{CallsAreResolved}
+use Rattle.jd_task_classes.specs.ResolvedCalls.{CallsAreResolved}
 use Rattle.jd_jml_meaning.specs.JmlCases.{JmlCase, JmlKept, JmlProgram, specified}
 use Rattle.jd_programs.specs.Programs.{IsProgram}
 

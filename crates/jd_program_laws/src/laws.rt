@@ -1,4 +1,5 @@
 ghost use Rattle.jd_program_laws.specs.Laws.{BodiesOfProgramsAreResolved, CallsOfProgramsAreResolved, EveryClosedCaseOfProgramsIsKept, FamiliesOfProgramsReach, ProgramsHaveMeanings};
+ghost use Rattle.jd_program_laws.specs.TaskClasses.{ClassesAreOne, ClassesOfProgramsStand, TablesAreClasses};
 
 use jd_ancestry::depths_are_an_order;
 use jd_jclasses::one_method;
@@ -43,4 +44,23 @@ pub fn every_closed_case_of_programs_is_kept()
     bodies_are_resolved();
     cases_are_kept_alike();
     every_closed_case_is_kept();
+}
+
+/// What the tables of a program's classes tell is told of its files.
+pub fn tables_are_classes()
+    ensures { TablesAreClasses }
+{}
+
+/// Files tell one such thing, whatever tables are made of them.
+pub fn classes_are_one()
+    ensures { ClassesAreOne }
+{}
+
+/// What is told of the files' classes stands for each program that they mean: superclasses, fields with their types, look-up, results, the
+/// kinds and families of methods with cases, and that calls are resolved (JLS 8.1.4, 8.2, 8.4.8, 15.12.4.4).
+pub fn classes_of_programs_stand()
+    ensures { ClassesOfProgramsStand }
+{
+    depths_are_an_order();
+    one_method();
 }

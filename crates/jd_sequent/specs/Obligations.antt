@@ -6,6 +6,7 @@ use Rattle.jd_term.specs.TermViews.{term_view, loc_view}
 use Rattle.jd_term.specs.Formulas.{PlainFormula, formula_view}
 use Rattle.jd_model.specs.Sequents.{PlainSequent, sequent_view}
 use Rattle.jd_model.specs.ContractForms.{PlainContracts, contracts_view}
+use Rattle.jd_task_classes.specs.Classes.{PlainClasses, classes_view}
 use Rattle.jd_sequent.specs.declared.obligation.LoopForm.{LoopForm}
 use Rattle.jd_sequent.specs.declared.obligation.Obligation.{Obligation}
 use Rattle.jd_sequent.specs.declared.obligation.Task.{Task}
@@ -31,6 +32,7 @@ pub record PlainObligation : Type 0 where
 
 -- what the rules may look up beside the sequent
 pub record PlainTask : Type 0 where
+  pub classes : PlainClasses
   pub contracts : PlainContracts
   pub obligation : PlainObligation
 
@@ -57,4 +59,4 @@ obligation_view o = record {
 }
 
 abbrev pub task_view : Task → PlainTask
-task_view t = record { contracts = contracts_view t.contracts.now; obligation = obligation_view t.obligation.now }
+task_view t = record { classes = classes_view t.classes.now; contracts = contracts_view t.contracts.now; obligation = obligation_view t.obligation.now }

@@ -11,6 +11,7 @@ use Rattle.jd_model.specs.Cases.{Case, SpecifiedProgram}
 use Rattle.jd_model.specs.KeptCases.{Usable}
 use Rattle.jd_model.specs.Occurrences.{TermIn, LocIn, FormulaIn}
 use Rattle.jd_model.specs.Tables.{TablesStandFor}
+use Rattle.jd_task_classes.specs.Standing.{ClassesStandFor}
 use Rattle.jd_sequent.specs.Obligations.{PlainLoop, PlainObligation, PlainTask}
 
 -- the heap's variable, or one of the obligation's
@@ -42,6 +43,7 @@ pub record IsCaseOf (o : PlainObligation) (p : SpecifiedProgram) (c : Case) : Ty
 
 -- the task's tables stand for the program, and its obligation is about the case
 pub record TaskStandsFor (t : PlainTask) (p : SpecifiedProgram) (c : Case) : Type 0 where
+  pub classes : ClassesStandFor t.classes p
   pub tables : TablesStandFor t.contracts p
   pub case : IsCaseOf t.obligation p c
   pub measure : IsKnownConstant t.obligation entry_measure

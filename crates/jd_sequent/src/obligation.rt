@@ -1,6 +1,7 @@
 ghost use Rattle.std.specs.Prelude.{◌≡◌};
 ghost use Rattle.jd_model.specs.ContractForms.{contracts_view};
 ghost use Rattle.jd_sequent.specs.Obligations.{obligation_view, task_view};
+ghost use Rattle.jd_task_classes.specs.Classes.{classes_view};
 
 use jd_base::{ClassId, ConstDecl, MethodId};
 use jd_classes::Classes;
@@ -65,6 +66,7 @@ impl<'a> Task<'a> {
         obligation: &'a Obligation,
     ) -> Task<'a>
         ensures view { task_view result ≡ record {
+          classes = classes_view classes.now;
           contracts = contracts_view contracts.now;
           obligation = obligation_view obligation.now;
         } }

@@ -10,10 +10,10 @@ use Rattle.jd_answer.proofs.answer.answer_for.Goals as goal
 
 pub returns-in-Err-clause-answer : goal.returns-in-Err-clause-answer
 returns-in-Err-clause-answer g c =
-    let leads = leads_of (g.R.RuleSet.instance c.args.rules.now) (made_view c.args.made.now) in
-    let causes = (g.R.RuleSet.cause c.args.rules.now) (made_view c.args.made.now) in
-    IfOk-weaker c.unread.result (λ a. IsUnreadAnswer c.args.name.now c.in-Err.refusal a.status a.text.items) (λ a. IsProofAnswer leads causes (made_view c.args.made.now) c.args.name.now c.args.proof.now a.status a.text.items)
-    (λ a tells. unread_answer leads causes (made_view c.args.made.now) c.args.name.now c.args.proof.now _ (c.in_ok-obligation.ensures ∙ c.deref.ensures.value) c.in-Err.refusal a.status a.text.items c.in-Err.ensures tells) c.unread.ensures
+    let leads = leads_of (g.R.RuleSet.instance c.args.rules.now) (made_view c.args.classes.now c.args.made.now) in
+    let causes = (g.R.RuleSet.cause c.args.rules.now) (made_view c.args.classes.now c.args.made.now) in
+    IfOk-weaker c.unread.result (λ a. IsUnreadAnswer c.args.name.now c.in-Err.refusal a.status a.text.items) (λ a. IsProofAnswer leads causes (made_view c.args.classes.now c.args.made.now) c.args.name.now c.args.proof.now a.status a.text.items)
+    (λ a tells. unread_answer leads causes (made_view c.args.classes.now c.args.made.now) c.args.name.now c.args.proof.now _ (c.in_ok-obligation.ensures ∙ c.deref.ensures.value) c.in-Err.refusal a.status a.text.items c.in-Err.ensures tells) c.unread.ensures
 
 pub returns-in-Err-clause-status : goal.returns-in-Err-clause-status
 returns-in-Err-clause-status g c =
@@ -22,5 +22,5 @@ returns-in-Err-clause-status g c =
 
 pub returns-clause-answer : goal.returns-clause-answer
 returns-clause-answer g c =
-    limited_report (leads_of (g.R.RuleSet.instance c.args.rules.now) (made_view c.args.made.now)) ((g.R.RuleSet.cause c.args.rules.now) (made_view c.args.made.now)) (made_view c.args.made.now) c.args.name.now c.args.proof.now _
+    limited_report (leads_of (g.R.RuleSet.instance c.args.rules.now) (made_view c.args.classes.now c.args.made.now)) ((g.R.RuleSet.cause c.args.rules.now) (made_view c.args.classes.now c.args.made.now)) (made_view c.args.classes.now c.args.made.now) c.args.name.now c.args.proof.now _
     (c.in_ok-obligation.ensures ∙ c.deref.ensures.value) (option_map tree_view c.in-Ok.proof) _ _ _ _ c.in-Ok.ensures c.in_ok-report.ensures.report c.in_ok-answer.ensures.long c.in_ok-answer.ensures.short

@@ -18,7 +18,7 @@ returns-in-Refused-clause-status g c =
 
 pub returns-in-Program-clause-answer : goal.returns-in-Program-clause-answer
 returns-in-Program-clause-answer g c =
-    let q = made_view c.in-Program.made in
+    let q = made_view c.in-Program.classes c.in-Program.made in
     let names = word_texts c.args.named.now.files.now in
     let files = map (λ f. f.items) c.args.files.now in
     let program = (rw c.in-Program.is at c.in_ok-answer.ensures).0 in

@@ -6,10 +6,10 @@ use Rattle.jd_answer.proofs.answer.replayed.Goals as goal
 
 pub returns-in_ok-missing-in-None-clause-report : goal.returns-in_ok-missing-in-None-clause-report
 returns-in_ok-missing-in-None-clause-report g c =
-    let q = made_view c.args.made.now in
+    let q = made_view c.args.classes.now c.args.made.now in
     report_without_proof (leads_of (g.R.RuleSet.instance c.args.rules.now) q) (g.R.RuleSet.cause c.args.rules.now q) (obligation_sequent q) c.args.proof _ _ _ c.in-None.is c.as_slice-name.ensures.value c.in_ok-missing-in-None.ensures
 
 pub returns-in_ok-text_of-in-Some-clause-report : goal.returns-in_ok-text_of-in-Some-clause-report
 returns-in_ok-text_of-in-Some-clause-report g c =
-    let q = made_view c.args.made.now in
+    let q = made_view c.args.classes.now c.args.made.now in
     report_of_proof (leads_of (g.R.RuleSet.instance c.args.rules.now) q) (g.R.RuleSet.cause c.args.rules.now q) (obligation_sequent q) c.args.proof c.in-Some.tree _ _ _ _ _ c.in-Some.is c.as_slice-name.ensures.value c.in_ok-verdict-in-Some.ensures c.status_of.ensures c.in_ok-text_of-in-Some.ensures

@@ -11,12 +11,12 @@ use Rattle.jd_answer.proofs.answer.verdict_of.Goals as goal
 
 pub replay-requires : goal.replay-requires
 replay-requires g c =
-    let q = made_view c.args.made.now in
+    let q = made_view c.args.classes.now c.args.made.now in
     subst (λ t. g.R.RuleSet.accepts c.args.rules.now t (obligation_sequent q)) (sym c.of-task.ensures.view) (c.requires.accepts q c.requires.program)
 
 pub returns : goal.returns
 returns g c =
-    let q = made_view c.args.made.now in
+    let q = made_view c.args.classes.now c.args.made.now in
     let tree = tree_of (map node_view c.args.tree.now.nodes.items) in
     let instance = g.R.RuleSet.instance c.args.rules.now in
     let cause = g.R.RuleSet.cause c.args.rules.now in

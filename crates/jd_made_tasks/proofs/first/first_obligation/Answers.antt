@@ -56,6 +56,7 @@ returns c = λ units j is tables form tabled.
       program = j;
       is_program = is;
       form = form;
+      classes = c.tables_are_classes.ensures units c.args.classes.now tables;
       contracts = tabled;
       case = here.case;
       first = here.first;

@@ -1,3 +1,4 @@
+use Rattle.jd_task_classes.specs.Classes.{classes_view}
 use Rattle.jd_made_tasks.proofs.Past.{past}
 use Rattle.jd_made_tasks.proofs.tasks.of_form.Goals as goal
 
@@ -11,4 +12,4 @@ returns-in-Ok g c = λ units j is tables resolved same form. c.with_contracts.en
 
 pub returns-in-Err-TooLarge : goal.returns-in-Err-TooLarge
 returns-in-Err-TooLarge g c = λ units j is tables resolved same form.
-    past units tables.stand j is form c.large_clauses_make_large_sequents.ensures c.invariants_are_resolved.ensures (rw c.in-Err-TooLarge.field-0-is at (c.in-Err-TooLarge.ensures.why units j is tables resolved same))
+    past units tables.stand j is form (classes_view c.args.classes.now) (c.tables_are_classes.ensures units c.args.classes.now tables) c.large_clauses_make_large_sequents.ensures c.invariants_are_resolved.ensures (rw c.in-Err-TooLarge.field-0-is at (c.in-Err-TooLarge.ensures.why units j is tables resolved same))

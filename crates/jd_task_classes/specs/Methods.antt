@@ -37,7 +37,8 @@ pub record MethodOfCase (m : PlainMethods) (c : Case) : Type 0 where
   pub result : IsResultSort (m.result c.method) c.contract.result
   pub family : m.family c.method ≡ c.family
 
+-- which families reach which is asked of those that have cases
 pub record MethodsStandFor (m : PlainMethods) (p : SpecifiedProgram) : Type 0 where
   pub cases : (κ : ℕ) (c : Case) → p.case κ ≡ Some c → MethodOfCase m c
-  pub reaches : (a b : ℕ) → m.reaches a b ≡ p.reaches a b
+  pub reaches : (κ ι : ℕ) (c d : Case) → p.case κ ≡ Some c → p.case ι ≡ Some d → m.reaches c.family d.family ≡ p.reaches c.family d.family
   pub null_pointer : m.null_pointer ≡ p.setting.program.null_pointer
