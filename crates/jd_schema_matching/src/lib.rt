@@ -18,3 +18,4 @@ pub use heads::{match_class, match_kind, match_modality, match_name, match_resul
 pub use parts::PartRef;
 pub use statements::{match_code, match_stmt, match_whole};
 pub use terms::{match_loc, match_term};
+pub use tests::same_variable;

@@ -13,7 +13,7 @@ use jd_syntax::{BinaryOp, CodeExpr, CodeStmt, Kind, UnaryOp, VarId};
 use jd_term::{ArithmeticOp, Formula, Loc, Modality, Term};
 
 /// Whether both are one variable.
-pub(crate) fn same_variable(a: &[u8], b: &[u8]) -> bool
+pub fn same_variable(a: &[u8], b: &[u8]) -> bool
     ensures { result ≡ tests.variable.same a.now b.now }
 {
     a == b

@@ -1,0 +1,5 @@
+pub mod Kinds
+pub mod Choosing
+pub mod Fitting
+pub mod Forms
+pub mod Made
