@@ -54,8 +54,8 @@ pub unread_is_judged : (file : List ℕ) (e : ProofsRefusal) (status : Status) (
 unread_is_judged file (code.File e) status text is = judged_no_file file is.answer status text is.tells
 unread_is_judged file (code.UnknownObligation name) status text is = rw (is.0) tt
 
-module _ (leads : PlainSequent → PlainStep → List PlainSequent → Type 0) (causes : PlainSequent → PlainStep → ℕ → Type 0) (q : PlainTask) (file bytes called : List ℕ) (called_is : called ≡ obligation_name q) where
-  unread_by : (e : ProofsRefusal) (status : Status) (text : List ℕ) → IsUnread (obligation_name q ∷ []) (tokens_of bytes) e → IsUnreadAnswer file e status text → IsProofAnswer leads causes q file bytes status text
+module _ (leads : PlainSequent → PlainStep → List PlainSequent → Type 0) (causes : PlainSequent → PlainStep → ℕ → Type 0) (said : List PlainSequent → List ℕ) (q : PlainTask) (file bytes called : List ℕ) (called_is : called ≡ obligation_name q) where
+  unread_by : (e : ProofsRefusal) (status : Status) (text : List ℕ) → IsUnread (obligation_name q ∷ []) (tokens_of bytes) e → IsUnreadAnswer file e status text → IsProofAnswer leads causes said q file bytes status text
   unread_by (code.File e) status text is tells = record {
     outcome = NoFile tells.answer;
     read = record { answer = tells.answer; answered = refused_as (limits_of most_steps most_levels) (tokens_of bytes) e tells.answer is tells.is; is = not_read_as (obligation_name q ∷ []) e tells.answer tells.is };
@@ -65,11 +65,11 @@ module _ (leads : PlainSequent → PlainStep → List PlainSequent → Type 0) (
       rw (tells.0, tells.1) (record { outcome = UnknownObligation name.items; read = is; answer = unknown name.items refl })
 
   -- the proof file gives no proofs
-  pub unread_answer : (e : ProofsRefusal) (status : Status) (text : List ℕ) → IsUnread (called ∷ []) (tokens_of bytes) e → IsUnreadAnswer file e status text → IsProofAnswer leads causes q file bytes status text
+  pub unread_answer : (e : ProofsRefusal) (status : Status) (text : List ℕ) → IsUnread (called ∷ []) (tokens_of bytes) e → IsUnreadAnswer file e status text → IsProofAnswer leads causes said q file bytes status text
   unread_answer e status text is tells = unread_by e status text (subst (λ n. IsUnread (n ∷ []) (tokens_of bytes) e) called_is is) tells
 
   -- the report, or that it is too long
-  pub limited_report : (p : Option ProofTree) (status status' : Status) (text text' : List ℕ) → HasProof called bytes p → IsReport leads causes (obligation_name q) (obligation_sequent q) p status text → (report_limit < length text → (status' ≡ Limit) × (text' ≡ report_limit_text)) → (length text ≤ report_limit → (status' ≡ status) × (text' ≡ text)) → IsProofAnswer leads causes q file bytes status' text'
+  pub limited_report : (p : Option ProofTree) (status status' : Status) (text text' : List ℕ) → HasProof called bytes p → IsReport leads causes said (obligation_name q) (obligation_sequent q) p status text → (report_limit < length text → (status' ≡ Limit) × (text' ≡ report_limit_text)) → (length text ≤ report_limit → (status' ≡ status) × (text' ≡ text)) → IsProofAnswer leads causes said q file bytes status' text'
   limited_report p status status' text text' has report long short =
       let named = subst (λ n. HasProof n bytes p) called_is has in
       elim (cases_lt report_limit (length text)) [

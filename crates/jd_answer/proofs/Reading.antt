@@ -7,7 +7,7 @@ use Rattle.jd_model.specs.Sequents.{PlainSequent}
 use Rattle.jd_sequent.specs.Trees.{PlainStep}
 use Rattle.jd_files.specs.Files.{files_limit}
 use Rattle.jd_sequent.specs.Obligations.{PlainTask}
-use Rattle.jd_answer.specs.Words.{replay_words}
+use Rattle.jd_answer.specs.Words.{command_words}
 use Rattle.jd_answer.specs.Reports.{proof_limit_text, file_limit_text, files_limit_text}
 use Rattle.jd_answer.specs.Answers.{proof_limit, IsProofRead, AreRead, AreTold, HaveBytes, HaveLongFile, long, behind, IsAnswer, many_files, long_proof, long_file, IsTold}
 use Rattle.jd_answer.specs.ReadFaults.{AreSteady, HasRisen, IsReadFault, NamesSteady}
@@ -33,7 +33,7 @@ module _ (contents later : List ℕ → Option (List ℕ)) (same : SameContents 
 
 -- ---- the files that the words name
 
-module _ (leads : PlainTask → PlainSequent → PlainStep → List PlainSequent → Type 0) (causes : PlainTask → PlainSequent → PlainStep → ℕ → Type 0) (words : List (List ℕ)) (contents : List ℕ → Option (List ℕ)) (proof : List ℕ) (names : List (List ℕ)) (are : replay_words words ≡ Some (proof, names)) where
+module _ (leads : PlainTask → PlainSequent → PlainStep → List PlainSequent → Type 0) (causes : PlainTask → PlainSequent → PlainStep → ℕ → Type 0) (words : List (List ℕ)) (contents : List ℕ → Option (List ℕ)) (proof : List ℕ) (names : List (List ℕ)) (are : command_words words ≡ Some (proof, names)) where
   -- there are too many
   pub many_named : (text : List ℕ) → files_limit < length names → text ≡ files_limit_text → IsAnswer leads causes words contents Limit text
   many_named text many is = rw is (many_files proof names are many)
@@ -68,7 +68,7 @@ module _ (leads : PlainTask → PlainSequent → PlainStep → List PlainSequent
 
 -- ---- faults of reading
 
-pub a_file_failed : (words : List (List ℕ)) (proof : List ℕ) (names : List (List ℕ)) (before later after : List ℕ → ℕ) → replay_words words ≡ Some (proof, names) → SameCounts before later → HasRisen names later after → IsReadFault words before after
+pub a_file_failed : (words : List (List ℕ)) (proof : List ℕ) (names : List (List ℕ)) (before later after : List ℕ → ℕ) → command_words words ≡ Some (proof, names) → SameCounts before later → HasRisen names later after → IsReadFault words before after
 a_file_failed words proof names before later after are same risen = record {
   name = risen.name;
   named = record { proof = proof; names = names; words_ = are; among = Contains-append_right (proof ∷ []) names risen.name risen.among };
@@ -77,10 +77,10 @@ a_file_failed words proof names before later after are same risen = record {
 
 -- ---- where reading does not fail
 
-pub proof_is_steady : (words : List (List ℕ)) (proof : List ℕ) (names : List (List ℕ)) (steady : List ℕ → Type 0) → replay_words words ≡ Some (proof, names) → NamesSteady words steady → steady proof
+pub proof_is_steady : (words : List (List ℕ)) (proof : List ℕ) (names : List (List ℕ)) (steady : List ℕ → Type 0) → command_words words ≡ Some (proof, names) → NamesSteady words steady → steady proof
 proof_is_steady words proof names steady are all =
     all proof (record { proof = proof; names = names; words_ = are; among = Contains-append_left (proof ∷ []) names proof (Contains-push [] proof) })
 
-pub files_are_steady : (words : List (List ℕ)) (proof : List ℕ) (names : List (List ℕ)) (steady still : List ℕ → Type 0) → replay_words words ≡ Some (proof, names) → NamesSteady words steady → StaySteady steady still → AreSteady names still
+pub files_are_steady : (words : List (List ℕ)) (proof : List ℕ) (names : List (List ℕ)) (steady still : List ℕ → Type 0) → command_words words ≡ Some (proof, names) → NamesSteady words steady → StaySteady steady still → AreSteady names still
 files_are_steady words proof names steady still are all stay name among =
     stay name (all name (record { proof = proof; names = names; words_ = are; among = Contains-append_right (proof ∷ []) names name among }))

@@ -2,13 +2,13 @@
 use Rattle.std.specs.Prelude.{◌≡◌, ℕ, ◌<◌, List, ◌∷◌, Some}
 use Rattle.std.specs.List.{Contains}
 use Rattle.jd_base.specs.Faults.{Rose}
-use Rattle.jd_answer.specs.Words.{replay_words}
+use Rattle.jd_answer.specs.Words.{command_words}
 
 -- the words name this file
 pub record IsNamed (words : List (List ℕ)) (name : List ℕ) : Type 0 where
   pub proof : List ℕ
   pub names : List (List ℕ)
-  pub words_ : replay_words words ≡ Some (proof, names)
+  pub words_ : command_words words ≡ Some (proof, names)
   pub among : Contains (proof ∷ names) name
 
 -- the count of faults of one of these files rose

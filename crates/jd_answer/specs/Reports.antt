@@ -1,10 +1,12 @@
 -- What the program prints, and when.
-use Rattle.std.specs.Prelude.{◌≡◌, ℕ, ◌<◌, List, [], ◌∷◌, ◌++◌, length, Option, Some, None, codes}
+use Rattle.std.specs.Prelude.{◌≡◌, ℕ, ◌+◌, ◌<◌, Bool, true, false, List, [], ◌∷◌, ◌++◌, length, map, Option, Some, None, codes}
 use Rattle.std.specs.Fmt.{decimal}
 use Rattle.jd_lex.specs.Parts.{Fault, BadByte, OpenComment, BigLiteral}
 use Rattle.jd_jclasses.specs.Refusals as classes
 use Rattle.jd_source.specs.Sources.{Reason, Faulty, Unsupported, NoFile, TooDeep}
-use Rattle.jd_model.specs.Sequents.{PlainSequent}
+use Rattle.jd_model.specs.Sequents.{PlainSequent, sequent_view}
+use Rattle.jd_sequent_print.specs.Lines.{sequent_text}
+use Rattle.jd_tgrammar.specs.NameTables.{NameTable}
 use Rattle.jd_sequent.specs.Trees.{PlainStep, ProofTree, steps_in}
 use Rattle.jd_sequent.specs.Derives.{Derives}
 use Rattle.jd_sequent.specs.declared.bad.Bad.{Bad}
@@ -151,8 +153,19 @@ not_accepted_text = line (codes "accepted 0 of 1")
 abbrev pub closed_text : List ℕ → ℕ → List ℕ
 closed_text name steps = line (name ++ (codes " closed " ++ decimal steps)) ++ accepted_text
 
-abbrev pub open_text : List ℕ → ℕ → List ℕ
-open_text name goals = line (name ++ (codes " open " ++ decimal goals)) ++ not_accepted_text
+-- each goal that a proof leaves, with its number from this one on
+abbrev pub goals_from : NameTable → ℕ → List PlainSequent → List ℕ
+goals_from names n [] = []
+goals_from names n (s ∷ ss) = line (codes "goal " ++ decimal n) ++ (sequent_text names s ++ goals_from names (n + 1) ss)
+
+-- where they are asked for
+abbrev pub goals_text : Bool → NameTable → List PlainSequent → List ℕ
+goals_text false names goals = []
+goals_text true names goals = goals_from names 1 goals
+
+-- with what is said of the goals
+abbrev pub open_text : List ℕ → List ℕ → ℕ → List ℕ
+open_text name said goals = line (name ++ (codes " open " ++ decimal goals)) ++ (said ++ not_accepted_text)
 
 abbrev pub missing_text : List ℕ → List ℕ
 missing_text name = line (name ++ codes " missing") ++ not_accepted_text
@@ -187,15 +200,21 @@ verdict_status (Closed steps) = Done
 verdict_status (Open goals) = NotAccepted
 verdict_status (Broken node cause) = NotAccepted
 
-abbrev pub verdict_text : List ℕ → Verdict → List ℕ
-verdict_text name (Closed steps) = closed_text name steps
-verdict_text name (Open goals) = open_text name (length goals.items)
-verdict_text name (Broken node cause) = bad_text name node cause
+abbrev pub verdict_text : List ℕ → List ℕ → Verdict → List ℕ
+verdict_text name said (Closed steps) = closed_text name steps
+verdict_text name said (Open goals) = open_text name said (length goals.items)
+verdict_text name said (Broken node cause) = bad_text name node cause
+
+-- what is said of the goals of a verdict that leaves some
+abbrev pub said_of_verdict : (List PlainSequent → List ℕ) → Verdict → List ℕ
+said_of_verdict said (Closed steps) = []
+said_of_verdict said (Open goals) = said (map sequent_view goals.items)
+said_of_verdict said (Broken node cause) = []
 
 -- the report of a proof or none for an obligation of this name and sequent, where a step leads from a sequent to its premises or
--- has causes by their numbers; of a proof that is bad it names the first bad step and its cause
-pub data IsReport (leads : PlainSequent → PlainStep → List PlainSequent → Type 0) (causes : PlainSequent → PlainStep → ℕ → Type 0) (name : List ℕ) (goal : PlainSequent) (proof : Option ProofTree) : Status → List ℕ → Type 0 where
-  missing : proof ≡ None → IsReport leads causes name goal proof NotAccepted (missing_text name)
-  closed : (tree : ProofTree) → proof ≡ Some tree → Derives leads tree goal [] → IsReport leads causes name goal proof Done (closed_text name (steps_in tree))
-  opened : (tree : ProofTree) (goals : List PlainSequent) → proof ≡ Some tree → Derives leads tree goal goals → 0 < length goals → IsReport leads causes name goal proof NotAccepted (open_text name (length goals))
-  broken : (tree : ProofTree) (node : ℕ) (cause : Cause) → proof ≡ Some tree → FirstBad leads causes tree goal node cause → IsReport leads causes name goal proof NotAccepted (bad_text name node cause)
+-- has causes by their numbers, and this is said of goals that are left; of a proof that is bad it names the first bad step and its cause
+pub data IsReport (leads : PlainSequent → PlainStep → List PlainSequent → Type 0) (causes : PlainSequent → PlainStep → ℕ → Type 0) (said : List PlainSequent → List ℕ) (name : List ℕ) (goal : PlainSequent) (proof : Option ProofTree) : Status → List ℕ → Type 0 where
+  missing : proof ≡ None → IsReport leads causes said name goal proof NotAccepted (missing_text name)
+  closed : (tree : ProofTree) → proof ≡ Some tree → Derives leads tree goal [] → IsReport leads causes said name goal proof Done (closed_text name (steps_in tree))
+  opened : (tree : ProofTree) (goals : List PlainSequent) → proof ≡ Some tree → Derives leads tree goal goals → 0 < length goals → IsReport leads causes said name goal proof NotAccepted (open_text name (said goals) (length goals))
+  broken : (tree : ProofTree) (node : ℕ) (cause : Cause) → proof ≡ Some tree → FirstBad leads causes tree goal node cause → IsReport leads causes said name goal proof NotAccepted (bad_text name node cause)

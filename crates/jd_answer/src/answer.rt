@@ -2,6 +2,7 @@ ghost use Rattle.std.specs.Prelude.{◌≡◌, ◌<◌, ◌≤◌, ℕ, List, Op
 ghost use Rattle.std.specs.List.{All};
 ghost use Rattle.std.specs.Option.{ForSome};
 ghost use Rattle.jd_base.specs.Faults.{Rose, SameCounts, SameContents, StaySteady};
+ghost use Rattle.jd_sequent.specs.Obligations.{names_of};
 ghost use Rattle.jd_sequent.specs.Trees.{tree_of};
 ghost use Rattle.jd_sequent.specs.Steps.{node_view};
 ghost use Rattle.jd_replay.specs.Verdicts.{IsVerdict};
@@ -9,8 +10,9 @@ ghost use Rattle.jd_files.specs.Files.{HaveTables, file_limit, files_limit};
 ghost use Rattle.jd_made_tasks.specs.Answers.{made_view};
 ghost use Rattle.jd_proofs.specs.Answers.{tree_view};
 ghost use Rattle.jd_refusals.specs.Resolving.{AreResolved};
-ghost use Rattle.jd_answer.specs.Words.{word_texts, replay_words};
-ghost use Rattle.jd_answer.specs.Reports.{IsReport, report_limit_text};
+ghost use Rattle.jd_tparse.specs.Programs.{AreSomeTables};
+ghost use Rattle.jd_answer.specs.Words.{asks_goals, command_words, word_texts};
+ghost use Rattle.jd_answer.specs.Reports.{IsReport, goals_text, report_limit_text};
 ghost use Rattle.jd_answer.specs.Answers.{AcceptsObligations, leads_of, proof_limit, report_limit, AreRead, AreTold, HaveBytes, HaveLongFile, IsAnswer, IsProofAnswer, SameAnswer, IsTold};
 ghost use Rattle.jd_answer.specs.Statuses.{IsJudged, IsWritten};
 ghost use Rattle.jd_answer.specs.FileAnswers.{IsRefusal};
@@ -20,6 +22,7 @@ ghost use Rattle.jd_answer.specs.Understanding.{IsUnderstood};
 ghost use Rattle.jd_answer.specs.declared.status.Status.{Status};
 ghost use Rattle.jd_answer.specs.declared.answer.Stop.TheVariants.{NoMemory as OutOfMemory};
 
+use crate::goals::said_of;
 use crate::java::refused;
 use crate::report::{missing, status_of, text_of};
 use crate::script::{proof_of, unread};
@@ -37,7 +40,8 @@ use jd_first_tasks::one_first_task;
 use jd_made_tasks::{FirstTask, Made, first_task};
 use jd_refusals::{Resolved, one_refusal as one_token_refusal, resolve};
 use jd_replay::{Verdict, replay};
-use jd_sequent::{RuleSet, ScriptTree, Task};
+use jd_sequent::{OfTask, RuleSet, ScriptTree, Task};
+use jd_tparse::Names;
 use std::alloc::{AllocFailed, Global};
 
 /// The greatest number of Java files.
@@ -96,6 +100,7 @@ fn verdict_of<R: RuleSet>(
 ) -> Result<Verdict, NoMemory>
     requires accepts { AcceptsObligations (R.accepts rules.now) }
     requires program { IsTaskOfFiles (made_view classes.now made.now) }
+    requires tables { AreSomeTables classes.now }
     ensures { IfOk result
         (λ verdict. IsVerdict (leads_of (R.instance rules.now) (made_view classes.now made.now)) (R.cause rules.now (made_view classes.now made.now)) (tree_of (map node_view tree.now.nodes.items)) (obligation_sequent (made_view classes.now made.now)) verdict) }
 {
@@ -110,11 +115,13 @@ fn replayed<R: RuleSet>(
     classes: &Classes,
     made: &Made,
     proof: Option<ScriptTree>,
+    goals: bool,
 ) -> Result<Answer, NoMemory>
     requires accepts { AcceptsObligations (R.accepts rules.now) }
     requires program { IsTaskOfFiles (made_view classes.now made.now) }
+    requires tables { AreSomeTables classes.now }
     ensures report { IfOk result
-        (λ a. IsReport (leads_of (R.instance rules.now) (made_view classes.now made.now)) (R.cause rules.now (made_view classes.now made.now)) (obligation_name (made_view classes.now made.now)) (obligation_sequent (made_view classes.now made.now)) (option_map tree_view proof) a.status a.text.items) }
+        (λ a. IsReport (leads_of (R.instance rules.now) (made_view classes.now made.now)) (R.cause rules.now (made_view classes.now made.now)) (goals_text goals (names_of (made_view classes.now made.now))) (obligation_name (made_view classes.now made.now)) (obligation_sequent (made_view classes.now made.now)) (option_map tree_view proof) a.status a.text.items) }
     ensures status { IfOk result (λ a. IsJudged a.status) }
 {
     let name = made.obligation.name.as_slice();
@@ -125,9 +132,11 @@ fn replayed<R: RuleSet>(
         }),
         Some(tree) => {
             let verdict = verdict_of(alloc, rules, classes, made, &tree)?;
+            let task = Task::of(classes, &made.contracts, &made.obligation);
+            let said = said_of(alloc, &Names::of(&task), goals, &verdict)?;
             Ok(Answer {
                 status: status_of(&verdict),
-                text: text_of(alloc, name, &verdict)?,
+                text: text_of(alloc, name, &said, &verdict)?,
             })
         }
     }
@@ -219,21 +228,22 @@ fn answer_for<R: RuleSet>(
     rules: &R,
     classes: &Classes,
     made: &Made,
-    name: &[u8],
+    named: &ReplayFiles<'_>,
     proof: &[u8],
 ) -> Result<Answer, NoMemory>
     requires accepts { AcceptsObligations (R.accepts rules.now) }
     requires program { IsTaskOfFiles (made_view classes.now made.now) }
+    requires tables { AreSomeTables classes.now }
     requires within { length proof.now ≤ proof_limit }
-    ensures answer { IfOk result (λ a. IsProofAnswer (leads_of (R.instance rules.now) (made_view classes.now made.now)) (R.cause rules.now (made_view classes.now made.now)) (made_view classes.now made.now) name.now proof.now a.status a.text.items) }
+    ensures answer { IfOk result (λ a. IsProofAnswer (leads_of (R.instance rules.now) (made_view classes.now made.now)) (R.cause rules.now (made_view classes.now made.now)) (goals_text named.now.goals (names_of (made_view classes.now made.now))) (made_view classes.now made.now) named.now.proof.now proof.now a.status a.text.items) }
     ensures status { IfOk result (λ a. IsJudged a.status) }
 {
     let obligation = copy_bytes(alloc, &made.obligation.name)?;
     let proof = match proof_of(alloc, obligation, proof) {
-        Err(refusal) => return unread(alloc, name, &refusal),
+        Err(refusal) => return unread(alloc, named.proof.as_bytes(), &refusal),
         Ok(proof) => proof,
     };
-    let report = replayed(alloc, rules, classes, made, proof)?;
+    let report = replayed(alloc, rules, classes, made, proof, named.goals)?;
     let answer = within_limit(alloc, report)?;
     Ok(answer)
 }
@@ -252,21 +262,16 @@ fn judged<R: RuleSet>(
     requires each { length named.now.files.now ≡ length files.now }
     requires within { All (λ f. length f.items ≤ file_limit) files.now }
     requires proof_within { length proof.now ≤ proof_limit }
-    ensures answer { IfOk result (λ a. (words : List (List ℕ)) (contents : List ℕ → Option (List ℕ))
+    ensures answer { IfOk result (λ a. (words : List (List ℕ)) (contents : List ℕ → Option (List ℕ)) → named.now.goals ≡ asks_goals words
         → AreRead words contents named.now.proof.now (word_texts named.now.files.now) proof.now (map (λ f. f.items) files.now)
         → IsAnswer (leads_of (R.instance rules.now)) (R.cause rules.now) words contents a.status a.text.items) }
     ensures status { IfOk result (λ a. IsJudged a.status) }
 {
     match understand(alloc, named.files, files)? {
         Understood::Refused(answer) => Ok(answer),
-        Understood::Program(made, classes) => answer_for(
-            alloc,
-            rules,
-            &classes,
-            &made,
-            named.proof.as_bytes(),
-            proof,
-        ),
+        Understood::Program(made, classes) => {
+            answer_for(alloc, rules, &classes, &made, named, proof)
+        }
     }
 }
 
@@ -344,8 +349,8 @@ pub fn answer_to<R: RuleSet, L: Library>(
         → IsAnswer (leads_of (R.instance rules.now)) (R.cause rules.now) (word_texts words.now) (L.contents library.old) a.status a.text.items) }
 
     // Words that are no command are answered so, and no others.
-    ensures usage { IfOk result (λ a. a.status ≡ Status.Usage → replay_words (word_texts words.now) ≡ None) }
-    ensures always_usage { IfOk result (λ a. replay_words (word_texts words.now) ≡ None → a.status ≡ Status.Usage) }
+    ensures usage { IfOk result (λ a. a.status ≡ Status.Usage → command_words (word_texts words.now) ≡ None) }
+    ensures always_usage { IfOk result (λ a. command_words (word_texts words.now) ≡ None → a.status ≡ Status.Usage) }
     ensures written { IfOk result (λ a. IsWritten a.status) }
 
     ensures read_fault { IsErrOf result Stop.ReadFault

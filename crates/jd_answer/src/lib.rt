@@ -2,6 +2,7 @@
 #![tactic(auto)]
 
 mod answer;
+mod goals;
 mod java;
 mod report;
 mod script;

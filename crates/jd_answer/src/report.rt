@@ -67,14 +67,16 @@ fn closed(alloc: Global, name: &[u8], steps: u64) -> Result<Vec<u8>, NoMemory>
     Ok(out)
 }
 
-// The report of a proof that leaves this many goals.
-fn open(alloc: Global, name: &[u8], goals: u64) -> Result<Vec<u8>, NoMemory>
-    ensures { IfOk result (λ v. v.items ≡ open_text name.now goals) }
+// The report of a proof that leaves this many goals, with what is said of them.
+fn open(alloc: Global, name: &[u8], said: &[u8], goals: u64) -> Result<Vec<u8>, NoMemory>
+    ensures { IfOk result (λ v. v.items ≡ open_text name.now said.now goals) }
 {
     let mut out = copy_bytes(alloc, name)?;
     out.extend_from_slice(b" open ")?;
     add_decimal(alloc, &mut out, goals)?;
-    out.extend_from_slice(b"\naccepted 0 of 1\n")?;
+    out.push(b'\n')?;
+    out.extend_from_slice(said)?;
+    out.extend_from_slice(b"accepted 0 of 1\n")?;
     Ok(out)
 }
 
@@ -110,13 +112,18 @@ pub fn status_of(verdict: &Verdict) -> Status
     }
 }
 
-/// The report of a verdict.
-pub fn text_of(alloc: Global, name: &[u8], verdict: &Verdict) -> Result<Vec<u8>, NoMemory>
-    ensures { IfOk result (λ v. v.items ≡ verdict_text name.now verdict.now) }
+/// The report of a verdict, with what is said of the goals that are left.
+pub fn text_of(
+    alloc: Global,
+    name: &[u8],
+    said: &[u8],
+    verdict: &Verdict,
+) -> Result<Vec<u8>, NoMemory>
+    ensures { IfOk result (λ v. v.items ≡ verdict_text name.now said.now verdict.now) }
 {
     match verdict {
         Verdict::Closed { steps } => closed(alloc, name, *steps),
-        Verdict::Open { goals } => open(alloc, name, goals.len() as u64),
+        Verdict::Open { goals } => open(alloc, name, said, goals.len() as u64),
         Verdict::Bad { node, cause } => bad(alloc, name, *node, cause),
     }
 }

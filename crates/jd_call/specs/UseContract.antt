@@ -1,6 +1,5 @@
 -- The instances of `useContract`.
 use Rattle.std.specs.Prelude.{Bool, List, None, Option, Some, false, map, true, ◌≡◌, ◌∷◌, ◌&&◌, ◌==◌, ℕ, [], if◌then◌else◌}
-use Rattle.std.specs.List.{list_any}
 use Rattle.jd_call.specs.Calls.{CallFits, FocusedCall, IsAtFocus, called_class, called_method, formula_of, parameters_of, target_kind}
 use Rattle.jd_task_classes.specs.Classes.{methods_of}
 use Rattle.jd_call.specs.Premises.{call_constants, call_premises, call_variables}
@@ -10,10 +9,8 @@ use Rattle.jd_model.specs.Places.{put_at}
 use Rattle.jd_model.specs.Sequents.{PlainPlace, PlainSequent}
 use Rattle.jd_model.specs.Tables.{body_in}
 use Rattle.jd_model.specs.UpdatePlaces.{IsUpdatePlace}
-use Rattle.jd_sequent.specs.Freshness.{IsNewConstant, IsNewVariable}
+use Rattle.jd_sequent.specs.Freshness.{IsInNoBody, IsNewConstant, IsNewVariable}
 use Rattle.jd_sequent.specs.Obligations.{PlainTask}
-use Rattle.jd_syntax.specs.CodeNames.{named_in_code}
-use Rattle.jd_syntax.specs.Names.{Name}
 use Rattle.jd_term.specs.Formulas.{PlainFormula}
 use Rattle.jd_term.specs.declared.formula.Modality.{Modality}
 use Rattle.jd_term.specs.declared.formula.Modality.TheVariants as modalities
@@ -32,10 +29,6 @@ MayCall modalities.Possibility f reached = (f.diverges ≡ false) × (reached �
 abbrev pub is_in_cluster : Modality → Bool → Bool → Bool
 is_in_cluster modalities.Necessity reached back = false
 is_in_cluster modalities.Possibility reached back = reached && back
-
--- a variable stands in no body
-abbrev pub IsInNoBody : PlainTask → Name → Type 0
-IsInNoBody t x = list_any (λ (b : PlainBody). named_in_code x b.code) t.contracts.bodies ≡ false
 
 -- the task's family reaches the callee's, and that reaches the task's
 module _ (t : PlainTask) (c : FocusedCall) where

@@ -126,7 +126,7 @@ impl RuleSet for FirstRules {
 
     ghost sound = { λ r t s p ps a i. instances_are_sound t s p ps a i };
 
-    ghost keeps = { λ r t s p ps a i. instances_keep_sorted s p ps a i };
+    ghost keeps = { λ r t s p ps a l. instances_keep_sorted s p ps a l.0 };
 
     ghost has_no_cause = { λ r t s p ps n l c. no_cause s p ps n l c };
 

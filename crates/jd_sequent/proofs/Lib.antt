@@ -5,3 +5,4 @@ pub mod Small
 pub mod Freshness
 pub mod RulesBelowUpdates
 pub mod SoundDerivations
+pub mod TaskNames

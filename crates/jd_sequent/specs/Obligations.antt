@@ -1,6 +1,8 @@
 -- Plain obligations and tasks, and their views.
 use Rattle.std.specs.Prelude.{ℕ, Bool, List, Option, option_map, map}
 use Rattle.jd_syntax.specs.Names.{Name, var_view, Declared, decl_view, const_decl_view}
+use Rattle.jd_tgrammar.specs.NameTables.{NameTable}
+use Rattle.jd_names.specs.Tables.{name_table}
 use Rattle.jd_term.specs.Terms.{PlainTerm, PlainLoc}
 use Rattle.jd_term.specs.TermViews.{term_view, loc_view}
 use Rattle.jd_term.specs.Formulas.{PlainFormula, formula_view}
@@ -9,7 +11,7 @@ use Rattle.jd_model.specs.ContractForms.{PlainContracts, contracts_view}
 use Rattle.jd_task_classes.specs.Classes.{PlainClasses, classes_view}
 use Rattle.jd_sequent.specs.declared.obligation.LoopForm.{LoopForm}
 use Rattle.jd_sequent.specs.declared.obligation.Obligation.{Obligation}
-use Rattle.jd_sequent.specs.declared.obligation.Task.{Task}
+use Rattle.jd_sequent.specs.declared.task.Task.{Task}
 
 -- what is specified of a loop
 pub record PlainLoop : Type 0 where
@@ -35,6 +37,10 @@ pub record PlainTask : Type 0 where
   pub classes : PlainClasses
   pub contracts : PlainContracts
   pub obligation : PlainObligation
+
+-- what is written for the names that the text of a step of the task may use, and that stand in its sequents
+abbrev pub names_of : PlainTask → NameTable
+names_of t = name_table t.classes.tables (map (λ (v : Declared). v.name) t.obligation.vars)
 
 abbrev pub loop_view : LoopForm → PlainLoop
 loop_view l = record {

@@ -8,6 +8,7 @@ mod names;
 mod obligation;
 mod rule;
 mod script;
+mod task;
 
 pub use bad::Bad;
 pub use jd_model::{
@@ -16,6 +17,7 @@ pub use jd_model::{
 pub use laws::derivations_are_sound;
 pub use limits::is_within_limits;
 pub use names::OfTask;
-pub use obligation::{LoopForm, Obligation, Task};
-pub use rule::RuleSet;
+pub use obligation::{LoopForm, Obligation};
+pub use rule::{Rule, RuleSet};
 pub use script::{ScriptNode, ScriptTree, Step, one_tree};
+pub use task::Task;

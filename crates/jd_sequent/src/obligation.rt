@@ -2,7 +2,9 @@ ghost use Rattle.std.specs.Prelude.{◌≡◌};
 ghost use Rattle.jd_model.specs.ContractForms.{contracts_view};
 ghost use Rattle.jd_sequent.specs.Obligations.{obligation_view, task_view};
 ghost use Rattle.jd_task_classes.specs.Classes.{classes_view};
+ghost use Rattle.jd_tparse.specs.Programs.{AreSomeTables};
 
+use crate::task::Task;
 use jd_base::{ClassId, ConstDecl, MethodId};
 use jd_classes::Classes;
 use jd_model::{Contracts, Sequent};
@@ -47,17 +49,6 @@ pub struct Obligation {
     pub sequent: Sequent,
 }
 
-/// What the rules may look up beside the sequent.
-#[derive(Clone, Copy)]
-pub struct Task<'a> {
-    /// The tables of the program's classes.
-    pub classes: &'a Classes,
-    /// The contracts, invariants and bodies of the program.
-    pub contracts: &'a Contracts,
-    /// The obligation that is being proved.
-    pub obligation: &'a Obligation,
-}
-
 impl<'a> Task<'a> {
     /// The task of an obligation among the classes and contracts of its program. Takes no memory.
     pub fn of(
@@ -65,6 +56,7 @@ impl<'a> Task<'a> {
         contracts: &'a Contracts,
         obligation: &'a Obligation,
     ) -> Task<'a>
+        requires { AreSomeTables classes.now }
         ensures view { task_view result ≡ record {
           classes = classes_view classes.now;
           contracts = contracts_view contracts.now;

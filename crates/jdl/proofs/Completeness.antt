@@ -8,7 +8,7 @@ use Rattle.jd_base.specs.InMemory.{contents_of}
 use Rattle.jd_model.specs.Sequents.{PlainSequent}
 use Rattle.jd_sequent.specs.Trees.{PlainStep}
 use Rattle.jd_sequent.specs.Obligations.{PlainTask}
-use Rattle.jd_answer.specs.Words.{replay_words}
+use Rattle.jd_answer.specs.Words.{command_words}
 use Rattle.jd_answer.specs.Answers.{AreTold, IsTold}
 use Rattle.jd_answer.specs.ReadFaults.{IsNamed, IsReadFault}
 use Rattle.jd_answer.specs.Statuses.{IsWritten}
@@ -29,7 +29,7 @@ no_read_fault ended status written (inr fault) is = absurd cc
 
 module _ (leads : PlainTask → PlainSequent → PlainStep → List PlainSequent → Type 0) (causes : PlainTask → PlainSequent → PlainStep → ℕ → Type 0) (words : List (List ℕ)) (contents : List ℕ → Option (List ℕ)) (before after : List ℕ → ℕ) (sink_before sink_after : ℕ) where
   -- a status whose causes are all excluded is one of the others
-  pub ends_in_order : (ended : Status) → IsInOrder leads causes words contents → NoCountRose words before after sink_before sink_after → (ended ≡ Usage → replay_words words ≡ None) → (ended ≡ ReadFault → IsReadFault words before after) → (ended ≡ WriteFault → Rose sink_before sink_after) → (ended ≡ RefusedSource → IsSourceRefused words contents) → (ended ≡ RefusedScript → IsScriptRefused words contents) → (ended ≡ Limit → IsPastLimit leads causes words contents) → MayEndInOrder ended
+  pub ends_in_order : (ended : Status) → IsInOrder leads causes words contents → NoCountRose words before after sink_before sink_after → (ended ≡ Usage → command_words words ≡ None) → (ended ≡ ReadFault → IsReadFault words before after) → (ended ≡ WriteFault → Rose sink_before sink_after) → (ended ≡ RefusedSource → IsSourceRefused words contents) → (ended ≡ RefusedScript → IsScriptRefused words contents) → (ended ≡ Limit → IsPastLimit leads causes words contents) → MayEndInOrder ended
   ends_in_order Done order calm usage read write source script limit = tt
   ends_in_order NotAccepted order calm usage read write source script limit = tt
   ends_in_order Usage order calm usage read write source script limit = order.command (usage refl)
@@ -53,7 +53,7 @@ module _ (contents : List ℕ → Option (List ℕ)) where
       let here = found (contents n) (held n (Contains-append_left (n ∷ []) ns n (Contains-push [] n))) in
       (here.0, here.1, λ within. each_told ns (λ name among. held name (Contains-append_right (n ∷ []) ns name among)))
 
-named_so : (words : List (List ℕ)) (proof : List ℕ) (names : List (List ℕ)) (name : List ℕ) → replay_words words ≡ Some (proof, names) → Contains (proof ∷ names) name → IsNamed words name
+named_so : (words : List (List ℕ)) (proof : List ℕ) (names : List (List ℕ)) (name : List ℕ) → command_words words ≡ Some (proof, names) → Contains (proof ∷ names) name → IsNamed words name
 named_so words proof names name are among = record { proof = proof; names = names; words_ = are; among = among }
 
 -- files that are held are told

@@ -11,7 +11,7 @@ use Rattle.jd_programs.specs.Programs.{IsProgram}
 use Rattle.jd_first_tasks.specs.Laws.{ClosedFirstTasksAreKept}
 use Rattle.jd_answer.specs.Answers.{AcceptsObligations, HaveBytes}
 use Rattle.jd_answer.specs.Sources.{obligation_sequent}
-use Rattle.jd_answer.specs.Words.{replay_words}
+use Rattle.jd_answer.specs.Words.{command_words}
 use Rattle.jdl.specs.Outcomes.{IsAccepted}
 use Rattle.jdl.specs.KeptPrograms.{EachCaseIsKept}
 
@@ -27,7 +27,7 @@ same_files contents (n ∷ ns) (f ∷ fs) (g ∷ gs) have told =
     let tail : map contents ns ≡ map Some gs = cc in
     ap (λ x. x ∷ gs) (same_Some g f (sym head ∙ have.0)) ∙ ap (λ l. f ∷ l) (same_files contents ns fs gs have.2 tail)
 
-same_names : (words : List (List ℕ)) (p p' : List ℕ) (ns ns' : List (List ℕ)) → replay_words words ≡ Some (p, ns) → replay_words words ≡ Some (p', ns') → ns ≡ ns'
+same_names : (words : List (List ℕ)) (p p' : List ℕ) (ns ns' : List (List ℕ)) → command_words words ≡ Some (p, ns) → command_words words ≡ Some (p', ns') → ns ≡ ns'
 same_names words p p' ns ns' one other =
     let pair : ◌≡◌ {A = List ℕ × List (List ℕ)} (p, ns) (p', ns') = same_Some (p, ns) (p', ns') (sym one ∙ other) in
     ap (λ x. x.1) pair

@@ -4,7 +4,7 @@ use Rattle.jd_model.specs.Sequents.{PlainSequent}
 use Rattle.jd_sequent.specs.Trees.{PlainStep, ProofTree}
 use Rattle.jd_sequent.specs.Obligations.{PlainTask}
 use Rattle.jd_answer.specs.Sources.{obligation_name}
-use Rattle.jd_answer.specs.Answers.{HasProof, AreRead, IsAnswer, usage, many_files, long_proof, long_file, refused, judged}
+use Rattle.jd_answer.specs.Answers.{said_of, HasProof, AreRead, IsAnswer, usage, many_files, long_proof, long_file, refused, judged}
 use Rattle.jd_answer.specs.FileAnswers.{IsRefusal}
 use Rattle.jd_answer.specs.Sources.{AreProgram}
 use Rattle.jdl.specs.Outcomes.{AreUnderstood, IsAccepted, IsNotAccepted, IsSourceRefused, IsScriptRefused, IsPastLimit}
@@ -42,7 +42,7 @@ module _ (leads : PlainTask → PlainSequent → PlainStep → List PlainSequent
   answer_done status text (refused proof bytes names files _ _ read refusal) is =
       absurd (no_refusal names files status text refusal (λ other. cc) (λ other. cc))
   answer_done status text (judged proof bytes names files q _ _ read program answer) is =
-      let done = proof_done (leads q) (causes q) q proof bytes status text answer is in
+      let done = proof_done (leads q) (causes q) (said_of words q) q proof bytes status text answer is in
       record { program = q; tree = done.0; understood = understood proof bytes names files q (Some done.0) read program done.1; derived = done.2 }
 
   pub answer_not_accepted : ((q : PlainTask) → OneWay (leads q)) → ((q : PlainTask) → HasNoCause (leads q) (causes q)) → (status : Status) (text : List ℕ) → IsAnswer leads causes words contents status text → status ≡ NotAccepted → IsNotAccepted leads words contents
@@ -53,7 +53,7 @@ module _ (leads : PlainTask → PlainSequent → PlainStep → List PlainSequent
   answer_not_accepted way free status text (refused proof bytes names files _ _ read refusal) is =
       absurd (no_refusal names files status text refusal (λ other. cc) (λ other. cc))
   answer_not_accepted way free status text (judged proof bytes names files q _ _ read program answer) is =
-      let none = proof_not_accepted (leads q) (causes q) q proof bytes (way q) (free q) status text answer is in
+      let none = proof_not_accepted (leads q) (causes q) (said_of words q) q proof bytes (way q) (free q) status text answer is in
       record { program = q; plain = none.0; understood = understood proof bytes names files q none.0 read program none.1; not_derived = none.2 }
 
   pub answer_refused_source : (status : Status) (text : List ℕ) → IsAnswer leads causes words contents status text → status ≡ RefusedSource → IsSourceRefused words contents
@@ -64,7 +64,7 @@ module _ (leads : PlainTask → PlainSequent → PlainStep → List PlainSequent
   answer_refused_source status text (refused proof bytes names files _ _ read refusal) is =
       record { proof = proof; proof_bytes = bytes; names = names; files = files; read = read; text = text; refusal = subst (λ s. IsRefusal names files s text) is refusal }
   answer_refused_source status text (judged proof bytes names files q _ _ read program answer) is =
-      absurd (proof_no_source (leads q) (causes q) q proof bytes status text answer is)
+      absurd (proof_no_source (leads q) (causes q) (said_of words q) q proof bytes status text answer is)
 
   pub answer_refused_script : (status : Status) (text : List ℕ) → IsAnswer leads causes words contents status text → status ≡ RefusedScript → IsScriptRefused words contents
   answer_refused_script status text (usage none) is = absurd cc
@@ -74,7 +74,7 @@ module _ (leads : PlainTask → PlainSequent → PlainStep → List PlainSequent
   answer_refused_script status text (refused proof bytes names files _ _ read refusal) is =
       absurd (no_refusal names files status text refusal (λ other. cc) (λ other. cc))
   answer_refused_script status text (judged proof bytes names files q _ _ read program answer) is =
-      record { proof = proof; proof_bytes = bytes; names = names; files = files; program = q; read = read; java_ = program; no_script = proof_refused (leads q) (causes q) q proof bytes status text answer is }
+      record { proof = proof; proof_bytes = bytes; names = names; files = files; program = q; read = read; java_ = program; no_script = proof_refused (leads q) (causes q) (said_of words q) q proof bytes status text answer is }
 
   pub answer_limit : (status : Status) (text : List ℕ) → IsAnswer leads causes words contents status text → status ≡ Limit → IsPastLimit leads causes words contents
   answer_limit status text (usage none) is = absurd cc
@@ -84,7 +84,7 @@ module _ (leads : PlainTask → PlainSequent → PlainStep → List PlainSequent
   answer_limit status text (refused proof bytes names files _ _ read refusal) is =
       outcome.many_parts proof bytes text names files read (subst (λ s. IsRefusal names files s text) is refusal)
   answer_limit status text (judged proof bytes names files q _ _ read program answer) is =
-      elim (proof_limited (leads q) (causes q) q proof bytes status text answer is) [
+      elim (proof_limited (leads q) (causes q) (said_of words q) q proof bytes status text answer is) [
         | inl many ↦ outcome.many_steps proof bytes names files q read program many
         | inr long ↦ outcome.long_report q long.proof long.status long.text (understood proof bytes names files q long.proof read program long.has) long.report long.past
       ]

@@ -5,7 +5,7 @@ use Rattle.jd_base.specs.InMemory.{contents_of}
 use Rattle.jd_model.specs.Sequents.{PlainSequent}
 use Rattle.jd_sequent.specs.Trees.{PlainStep}
 use Rattle.jd_sequent.specs.Obligations.{PlainTask}
-use Rattle.jd_answer.specs.Words.{replay_words}
+use Rattle.jd_answer.specs.Words.{command_words}
 use Rattle.jd_answer.specs.Answers.{IsAnswer}
 use Rattle.jd_answer.specs.ReadFaults.{IsNamed, IsReadFault}
 use Rattle.jd_answer.specs.declared.status.Status.{Status}
@@ -14,7 +14,7 @@ use Rattle.jdl.specs.Outcomes.{IsSourceRefused, IsScriptRefused, IsPastLimit}
 
 -- the words are a command, none of the files is refused, and no limit is passed
 pub record IsInOrder (leads : PlainTask → PlainSequent → PlainStep → List PlainSequent → Type 0) (causes : PlainTask → PlainSequent → PlainStep → ℕ → Type 0) (words : List (List ℕ)) (contents : List ℕ → Option (List ℕ)) : Type 0 where
-  pub command : replay_words words ≡ None → ⊥
+  pub command : command_words words ≡ None → ⊥
   pub source : IsSourceRefused words contents → ⊥
   pub script_ : IsScriptRefused words contents → ⊥
   pub limits : IsPastLimit leads causes words contents → ⊥

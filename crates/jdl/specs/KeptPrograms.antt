@@ -4,13 +4,13 @@ use Rattle.jd_syntax.specs.JavaTrees.{JavaUnit}
 use Rattle.jd_files.specs.Files.{AreTrees}
 use Rattle.jd_jml_meaning.specs.JmlCases.{JmlCase, JmlKept, JmlProgram}
 use Rattle.jd_programs.specs.Programs.{IsProgram}
-use Rattle.jd_answer.specs.Words.{replay_words}
+use Rattle.jd_answer.specs.Words.{command_words}
 
 -- the words name Java files, and what their bytes are read as means the program
 pub record FilesMean (words : List (List ℕ)) (contents : List ℕ → Option (List ℕ)) (j : JmlProgram) : Type 0 where
   pub proof : List ℕ
   pub names : List (List ℕ)
-  pub words_ : replay_words words ≡ Some (proof, names)
+  pub words_ : command_words words ≡ Some (proof, names)
   pub files : List (List ℕ)
   pub told : map contents names ≡ map Some files
   pub units : List JavaUnit

@@ -9,12 +9,12 @@ use Rattle.jd_bracketed.specs.Tokens.{tokens_of}
 use Rattle.jd_scripts.specs.Answers as script
 use Rattle.jd_proofs.specs.Outcomes.{NoFile, IsOutcome}
 use Rattle.jd_answer.specs.Sources.{obligation_name, obligation_sequent}
-use Rattle.jd_answer.specs.Words.{replay_words}
+use Rattle.jd_answer.specs.Words.{command_words}
 use Rattle.jd_files.specs.Files.{files_limit}
 use Rattle.jd_answer.specs.FileAnswers.{IsRefusal}
 use Rattle.jd_answer.specs.Sources.{AreProgram}
 use Rattle.jd_answer.specs.Reports.{IsReport}
-use Rattle.jd_answer.specs.Answers.{proof_limit, report_limit, HaveLongFile, IsProofRead, AreRead, HasProof, IsAnswer}
+use Rattle.jd_answer.specs.Answers.{proof_limit, report_limit, HaveLongFile, IsProofRead, AreRead, HasProof, IsAnswer, said_of}
 use Rattle.jd_answer.specs.declared.status.Status.{Status}
 use Rattle.jd_answer.specs.declared.status.Status.TheVariants.{RefusedSource, Limit}
 
@@ -82,9 +82,9 @@ pub record IsScriptRefused (words : List (List ℕ)) (contents : List ℕ → Op
 
 -- there are too many files, classes, methods or steps, or the proof file, a Java file or the report is too long
 pub data IsPastLimit (leads : PlainTask → PlainSequent → PlainStep → List PlainSequent → Type 0) (causes : PlainTask → PlainSequent → PlainStep → ℕ → Type 0) (words : List (List ℕ)) (contents : List ℕ → Option (List ℕ)) : Type 0 where
-  many_files : (proof : List ℕ) (names : List (List ℕ)) → replay_words words ≡ Some (proof, names) → files_limit < length names → IsPastLimit leads causes words contents
-  long_proof : (proof bytes : List ℕ) (names : List (List ℕ)) → replay_words words ≡ Some (proof, names) → contents proof ≡ Some bytes → proof_limit < length bytes → IsPastLimit leads causes words contents
+  many_files : (proof : List ℕ) (names : List (List ℕ)) → command_words words ≡ Some (proof, names) → files_limit < length names → IsPastLimit leads causes words contents
+  long_proof : (proof bytes : List ℕ) (names : List (List ℕ)) → command_words words ≡ Some (proof, names) → contents proof ≡ Some bytes → proof_limit < length bytes → IsPastLimit leads causes words contents
   long_file : (proof proof_bytes : List ℕ) (names : List (List ℕ)) → IsProofRead words contents proof names proof_bytes → HaveLongFile contents names → IsPastLimit leads causes words contents
   many_parts : (proof proof_bytes text : List ℕ) (names files : List (List ℕ)) → AreRead words contents proof names proof_bytes files → IsRefusal names files Limit text → IsPastLimit leads causes words contents
   many_steps : (proof proof_bytes : List ℕ) (names files : List (List ℕ)) (program : PlainTask) → AreRead words contents proof names proof_bytes files → AreProgram files program → IsOutcome (obligation_name program ∷ []) (tokens_of proof_bytes) (NoFile script.TooManySteps) → IsPastLimit leads causes words contents
-  long_report : (program : PlainTask) (plain : Option ProofTree) (status : Status) (text : List ℕ) → AreUnderstood words contents program plain → IsReport (leads program) (causes program) (obligation_name program) (obligation_sequent program) plain status text → report_limit < length text → IsPastLimit leads causes words contents
+  long_report : (program : PlainTask) (plain : Option ProofTree) (status : Status) (text : List ℕ) → AreUnderstood words contents program plain → IsReport (leads program) (causes program) (said_of words program) (obligation_name program) (obligation_sequent program) plain status text → report_limit < length text → IsPastLimit leads causes words contents

@@ -4,7 +4,7 @@
 ghost use Rattle.std.specs.Prelude.{◌≡◌, ◌≢◌, ◌<◌, ◌≤◌, ◌++◌, ◌⊎◌, ℕ, Some, None, length, take};
 ghost use Rattle.std.specs.Option.{ForSome};
 ghost use Rattle.jd_base.specs.Faults.{Rose};
-ghost use Rattle.jd_answer.specs.Words.{word_texts, replay_words};
+ghost use Rattle.jd_answer.specs.Words.{word_texts, command_words};
 ghost use Rattle.jd_answer.specs.Answers.{IsTold};
 ghost use Rattle.jd_answer.specs.Statuses.{IsWritten};
 ghost use Rattle.jd_answer.specs.ReadFaults.{IsReadFault, HasMoreFaults, NamesSteady};
@@ -67,8 +67,8 @@ pub fn run<L: Library, S: Sink>(
         → S.bytes sink.new ≡ S.bytes sink.old }
 
     // Words that are no command are answered so, and no others, unless the answer is not written.
-    ensures usage { result ≡ Status.Usage → replay_words (word_texts words.now) ≡ None }
-    ensures always_usage { replay_words (word_texts words.now) ≡ None → MayEndUsage result }
+    ensures usage { result ≡ Status.Usage → command_words (word_texts words.now) ≡ None }
+    ensures always_usage { command_words (word_texts words.now) ≡ None → MayEndUsage result }
 
     // Faults of reading and of writing are never hidden, and never invented.
     ensures read_fault { result ≡ Status.ReadFault

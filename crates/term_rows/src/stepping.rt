@@ -4,6 +4,7 @@ ghost use Rattle.std.specs.Prelude.{IsTrue, None};
 ghost use Rattle.jd_model.specs.Sequents.{sequent_view};
 ghost use Rattle.jd_syntax.specs.CodeViews.{code_view, stmt_view};
 ghost use Rattle.jd_term.specs.Formulas.{formula_view};
+ghost use Rattle.jd_tparse.specs.Programs.{AreSomeTables};
 ghost use Rattle.jd_update_truth.specs.SortedFormulas.{SortedCode, SortedFormula, SortedSequent, SortedStmt};
 
 use crate::sequents::sequent_of;
@@ -134,7 +135,9 @@ fn apply(
     classes: &Classes,
     step: &Step,
     sequent: &Sequent,
-) {
+)
+    requires { AreSomeTables classes.now }
+{
     if !are_sorted(sequent) {
         return answer.put("not sorted");
     }

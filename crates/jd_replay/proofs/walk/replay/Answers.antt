@@ -16,6 +16,6 @@ returns-clause-closed g c =
     let causes = g.R.RuleSet.cause c.args.rules.now (task_view c.args.task.now) in
     let accepts = g.R.RuleSet.accepts c.args.rules.now (task_view c.args.task.now) in
     let sound = derivations_are_sound (task_view c.args.task.now) accepts leads
-    (λ s p ps ok l. g.met.R.RuleSet.keeps c.args.rules.now (task_view c.args.task.now) s p ps ok l.0)
+    (λ s p ps ok l. g.met.R.RuleSet.keeps c.args.rules.now (task_view c.args.task.now) s p ps ok l)
     (λ s p ps ok l. g.met.R.RuleSet.sound c.args.rules.now (task_view c.args.task.now) s p ps ok l.0) in
     IfOk-weaker _ _ _ (λ v is. closed_is_valid (task_view c.args.task.now) accepts leads causes sound (tree_of (map node_view c.args.script.now.nodes.items)) (sequent_view c.args.goal.now) c.requires v (subst (λ s. IsVerdict leads causes (tree_of (map node_view c.args.script.now.nodes.items)) s v) c.in_ok-goal.ensures is)) c.replayed.ensures

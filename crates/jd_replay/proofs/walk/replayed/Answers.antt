@@ -43,7 +43,7 @@ pub loop-i-preserved : goal.loop-i-preserved
 loop-i-preserved g c =
     let now = at_turn _ _ _ _ _ _ _ _ c.node-item.result _ _ c.in-Some.sequent _ _ c.deref-node-items.ensures.value c.node-item.is c.loop-i-test.true c.in-Some.ensures.items c.loop-i.invariant.going in
     record {
-      going = step_turn _ _ _ _ _ _ _ (step_view c.deref.result.now) _ c.in-Ok.premises.items _ _ _ _ _ (boxed_step _ _ _ c.in-Some-step.is c.deref.ensures) c.in-Ok.ensures (each_of_all _ _ (g.met.R.RuleSet.keeps c.args.rules.now (task_view c.args.task.now) _ _ _ now.taken.0 c.in-Ok.ensures.0)) (omega (arith, c.in-Ok.premises.ok.0, c.len-count.ensures, c.if-count-node.false)) c.in_ok-push_premises.ensures refl now;
+      going = step_turn _ _ _ _ _ _ _ (step_view c.deref.result.now) _ c.in-Ok.premises.items _ _ _ _ _ (boxed_step _ _ _ c.in-Some-step.is c.deref.ensures) c.in-Ok.ensures (each_of_all _ _ (g.met.R.RuleSet.keeps c.args.rules.now (task_view c.args.task.now) _ _ _ now.taken.0 c.in-Ok.ensures)) (omega (arith, c.in-Ok.premises.ok.0, c.len-count.ensures, c.if-count-node.false)) c.in_ok-push_premises.ensures refl now;
       below = omega arith;
     }
 
