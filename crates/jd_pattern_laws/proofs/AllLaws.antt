@@ -1,21 +1,16 @@
 -- The laws.
-use Rattle.std.proofs.Common.{Option, subst}
-use Rattle.jd_patterns.specs.Instances.{Instance}
-use Rattle.jd_patterns.specs.Bindings.{Bindings, Agrees, Exactly}
+use Rattle.std.proofs.Common.{subst}
 use Rattle.jd_patterns.specs.Variables.{code_variables, term_variables, loc_variables, formula_variables}
-use Rattle.jd_pattern_laws.specs.Laws.{MakesTerm, MakesLoc, MakesFormula, MatchingIsExact, MatchingDecides, BindingsFixMeaning}
+use Rattle.jd_pattern_laws.specs.Laws.{MakesTerm, MakesLoc, MakesFormula, MatchingIsExact, MatchingDecides, MatchingBinds, BindingsFixMeaning}
 use Rattle.jd_patterns.specs.Chosen.{BoundOnce}
 use Rattle.jd_patterns.specs.Matching.{match_term, match_loc, match_formula}
+use Rattle.jd_pattern_laws.proofs.Binding.{term_binds, loc_binds, formula_binds}
 use Rattle.jd_pattern_laws.proofs.Chosen.{bind_once, decided}
 use Rattle.jd_pattern_laws.proofs.Keeping.{term_keeps, loc_keeps, formula_keeps}
 use Rattle.jd_pattern_laws.proofs.Meets.{MeetsTerm, MeetsLoc, MeetsFormula}
-use Rattle.jd_pattern_laws.proofs.Exact.{term_law, loc_law, formula_law}
+use Rattle.jd_pattern_laws.proofs.Exact.{alike, term_law, loc_law, formula_law}
 use Rattle.jd_pattern_laws.proofs.Filling.{all_same, code_fill, term_fill, loc_fill, formula_fill}
 use Rattle.jd_pattern_laws.proofs.Made.{term_is, own_term, term_fits, loc_is, own_loc, loc_fits, formula_is, own_formula, formula_fits}
-
--- what is exact for one property is so for an equal one
-alike : (σ : Instance) (τ : Bindings) (P Q : Type 0) (o : Option Bindings) → (P → Q) → (Q → P) → Exactly σ τ P o → Exactly σ τ Q o
-alike σ τ P Q o f g h = (λ x. h.0 (x.0, g x.1), λ x. let y : Agrees σ τ × P = h.1 x in (y.0, f y.1))
 
 pub matching : MatchingIsExact
 matching = record {
@@ -37,4 +32,11 @@ decides = record {
   of_terms = λ p w τ a t o once. decided w τ (λ σ. MakesTerm p σ a t) (match_term w a t τ) (λ σ. matching.of_terms p w σ τ a t o) (term_keeps w (BoundOnce w) (bind_once w) a t τ once);
   of_locations = λ p w τ a l o once. decided w τ (λ σ. MakesLoc p σ a l) (match_loc w a l τ) (λ σ. matching.of_locations p w σ τ a l o) (loc_keeps w (BoundOnce w) (bind_once w) a l τ once);
   of_formulas = λ p w τ a f o once. decided w τ (λ σ. MakesFormula p σ a f) (match_formula w a f τ) (λ σ. matching.of_formulas p w σ τ a f o) (formula_keeps w (BoundOnce w) (bind_once w) a f τ once);
+}
+
+pub binding : MatchingBinds
+binding = record {
+  of_terms = λ w τ a t. term_binds w a t τ;
+  of_locations = λ w τ a l. loc_binds w a l τ;
+  of_formulas = λ w τ a f. formula_binds w a f τ;
 }

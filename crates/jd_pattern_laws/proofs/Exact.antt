@@ -21,6 +21,10 @@ module _ (σ : Instance) (τ : Bindings) where
   pub none : Exactly σ τ ⊥ None
   none = (λ h. h.1, λ h. absurd h)
 
+  -- what is exact for one property is so for an equal one
+  pub alike : (P Q : Type 0) (o : Option Bindings) → (P → Q) → (Q → P) → Exactly σ τ P o → Exactly σ τ Q o
+  alike P Q o f g h = (λ x. h.0 (x.0, g x.1), λ x. let y : Agrees σ τ × P = h.1 x in (y.0, f y.1))
+
   pub seq : (P Q : Type 0) (o : Option Bindings) (k : Bindings → Option Bindings) → Exactly σ τ P o → ((υ : Bindings) → Exactly σ υ Q (k υ)) → Exactly σ τ (P × Q) (next o k)
   seq P Q None k h f = (λ x. h.0 (x.0, x.1.0), λ x. absurd x)
   seq P Q (Some υ) k h f = (λ x. (f υ).0 (h.0 (x.0, x.1.0), x.1.1), λ x. let y : Agrees σ υ × Q = (f υ).1 x in let z : Agrees σ τ × P = h.1 y.0 in (z.0, (z.1, y.1)))

@@ -68,20 +68,20 @@ module _ (σ ρ : Instance) where
   all_same [] τ o h k = tt
   all_same (v ∷ vs) τ o h k = (bound_same v τ o.0 h k, all_same vs τ o.1 h k)
 
-  halves : (xs ys : List Variable) → AllSame (xs ++ ys) → AllSame xs × AllSame ys
+  pub halves : (xs ys : List Variable) → AllSame (xs ++ ys) → AllSame xs × AllSame ys
   halves [] ys o = (tt, o)
   halves (x ∷ xs) ys o = let s = halves xs ys o.1 in ((o.0, s.0), s.1)
 
-  thirds : (xs ys zs : List Variable) → AllSame (xs ++ (ys ++ zs)) → AllSame xs × (AllSame ys × AllSame zs)
+  pub thirds : (xs ys zs : List Variable) → AllSame (xs ++ (ys ++ zs)) → AllSame xs × (AllSame ys × AllSame zs)
   thirds xs ys zs o = let s = halves xs (ys ++ zs) o in (s.0, halves ys zs s.1)
 
-  fourths : (xs ys zs us : List Variable) → AllSame (xs ++ (ys ++ (zs ++ us))) → AllSame xs × (AllSame ys × (AllSame zs × AllSame us))
+  pub fourths : (xs ys zs us : List Variable) → AllSame (xs ++ (ys ++ (zs ++ us))) → AllSame xs × (AllSame ys × (AllSame zs × AllSame us))
   fourths xs ys zs us o = let s = halves xs (ys ++ (zs ++ us)) o in (s.0, thirds ys zs us s.1)
 
   -- ---- the meaning of a pattern
 
   module _ (q : Program) where
-    sort_fill : (p : SortPattern) → AllSame (sort_variables p) → of_sort q σ p ≡ of_sort q ρ p
+    pub sort_fill : (p : SortPattern) → AllSame (sort_variables p) → of_sort q σ p ≡ of_sort q ρ p
     sort_fill (SortVar n) o = o.0
     sort_fill (SortIs s) o = refl
 

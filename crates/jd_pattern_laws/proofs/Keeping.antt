@@ -15,15 +15,15 @@ use Rattle.jd_patterns.specs.Bindings.{Part, TheFormula, TheTerm, TheLiteral, Th
 use Rattle.jd_patterns.specs.Matching.{part_of, object_of, sides_of, terms_of, body_of, term_under, object_under, match_sort, match_kind, match_modality, match_name, match_result, match_class, match_expr, match_stmt, match_code, match_term, match_loc, match_formula}
 
 module _ (Q : Bindings → Type 0) where
-  keep_next : (o : Option Bindings) (k : Bindings → Option Bindings) → IfSome o Q → ((υ : Bindings) → Q υ → IfSome (k υ) Q) → IfSome (next o k) Q
+  pub keep_next : (o : Option Bindings) (k : Bindings → Option Bindings) → IfSome o Q → ((υ : Bindings) → Q υ → IfSome (k υ) Q) → IfSome (next o k) Q
   keep_next None k h f = tt
   keep_next (Some υ) k h f = f υ h
 
-  keep_only : (b : Bool) (o : Option Bindings) → IfSome o Q → IfSome (only b o) Q
+  pub keep_only : (b : Bool) (o : Option Bindings) → IfSome o Q → IfSome (only b o) Q
   keep_only true o h = h
   keep_only false o h = tt
 
-  keep_on : {A : Type 0} (o : Option A) (k : A → Option Bindings) → ((a : A) → IfSome (k a) Q) → IfSome (on o k) Q
+  pub keep_on : {A : Type 0} (o : Option A) (k : A → Option Bindings) → ((a : A) → IfSome (k a) Q) → IfSome (on o k) Q
   keep_on None k h = tt
   keep_on (Some a) k h = h a
 

@@ -1,5 +1,5 @@
 -- The laws of patterns: matching is exact, and bindings of its variables fix what a pattern means.
-use Rattle.std.specs.Prelude.{◌≡◌, ◌↔◌, Option, None}
+use Rattle.std.specs.Prelude.{◌≡◌, ◌↔◌, List, Option, None}
 use Rattle.std.specs.Option.{IfSome}
 use Rattle.jd_term.specs.Terms.{PlainTerm, PlainLoc}
 use Rattle.jd_term.specs.Formulas.{PlainFormula}
@@ -7,10 +7,10 @@ use Rattle.jd_model.specs.Programs.{Program}
 use Rattle.jd_patterns.specs.Patterns.{CodePattern, TermPattern, LocPattern, FormulaPattern}
 use Rattle.jd_patterns.specs.Instances.{Instance, of_code, of_term, of_loc, of_formula}
 use Rattle.jd_patterns.specs.Bindings.{Bindings, Agrees, Exactly, Tests}
-use Rattle.jd_patterns.specs.Chosen.{AllBound, BoundOnce, chosen}
+use Rattle.jd_patterns.specs.Chosen.{AllBound, BoundOnce, IsBound, chosen}
 use Rattle.jd_patterns.specs.Finds.{FitsTerm, FitsLoc, FitsFormula, IsFindTerm, IsFindLoc, IsFindFormula}
 use Rattle.jd_patterns.specs.Matching.{match_term, match_loc, match_formula}
-use Rattle.jd_patterns.specs.Variables.{code_variables, term_variables, loc_variables, formula_variables}
+use Rattle.jd_patterns.specs.Variables.{Variable, code_variables, term_variables, loc_variables, formula_variables}
 
 module _ (p : Program) (σ : Instance) where
   -- the instantiation makes the pattern this tree, and its variables are as the pattern asks
@@ -38,6 +38,16 @@ pub record MatchingDecides : Type 0 where
   pub of_terms : (p : Program) (w : Tests) (τ : Bindings) (a : TermPattern) (t : PlainTerm) → IsFindTerm a → BoundOnce w τ → IsDecided w τ (λ σ. MakesTerm p σ a t) (match_term w a t τ)
   pub of_locations : (p : Program) (w : Tests) (τ : Bindings) (a : LocPattern) (l : PlainLoc) → IsFindLoc a → BoundOnce w τ → IsDecided w τ (λ σ. MakesLoc p σ a l) (match_loc w a l τ)
   pub of_formulas : (p : Program) (w : Tests) (τ : Bindings) (a : FormulaPattern) (f : PlainFormula) → IsFindFormula a → BoundOnce w τ → IsDecided w τ (λ σ. MakesFormula p σ a f) (match_formula w a f τ)
+
+-- these variables are bound, and what was bound stays so
+abbrev pub Binds : List Variable → Bindings → Bindings → Type 0
+Binds vs τ υ = AllBound vs υ × ((v : Variable) → IsBound v τ → IsBound v υ)
+
+-- where matching has an answer, it binds all variables of the pattern
+pub record MatchingBinds : Type 0 where
+  pub of_terms : (w : Tests) (τ : Bindings) (a : TermPattern) (t : PlainTerm) → IfSome (match_term w a t τ) (Binds (term_variables a) τ)
+  pub of_locations : (w : Tests) (τ : Bindings) (a : LocPattern) (l : PlainLoc) → IfSome (match_loc w a l τ) (Binds (loc_variables a) τ)
+  pub of_formulas : (w : Tests) (τ : Bindings) (a : FormulaPattern) (f : PlainFormula) → IfSome (match_formula w a f τ) (Binds (formula_variables a) τ)
 
 -- where all variables of a pattern are bound, instantiations that agree with the bindings give it one meaning
 pub record BindingsFixMeaning : Type 0 where

@@ -3,4 +3,4 @@
 
 mod laws;
 
-pub use laws::{bindings_fix_meaning, matching_decides, matching_is_exact};
+pub use laws::{bindings_fix_meaning, matching_binds, matching_decides, matching_is_exact};

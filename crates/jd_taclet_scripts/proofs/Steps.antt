@@ -15,14 +15,14 @@ use Rattle.jd_patterns.specs.Patterns.{FormulaPattern, SchemaVar, TermPattern}
 use Rattle.jd_sequent.proofs.Freshness.{known_constant_old, left_old, rest_in, right_old}
 use Rattle.jd_sequent.proofs.RulesBelowUpdates.{formulas_wider}
 use Rattle.jd_sequent.specs.Freshness.{IsNewConstant, IsNewVariable}
-use Rattle.jd_sequent.specs.Obligations.{PlainTask}
+use Rattle.jd_sequent.specs.Obligations.{PlainTask, names_of}
 use Rattle.jd_sequent.specs.TaskMeaning.{IsKnownConstant}
 use Rattle.jd_syntax.specs.CodeNames.{heap_name}
 use Rattle.jd_syntax.specs.Names.{Name}
 use Rattle.jd_syntax.specs.Sxs.{Bracketed}
 use Rattle.jd_taclet_scripts.proofs.Occurring.{atom_in, plug_in}
 use Rattle.jd_taclet_scripts.proofs.Places.{among, calm_there, elsewhere, hole_of, on_left, on_right, path_there, replaced_there}
-use Rattle.jd_taclet_scripts.specs.Given.{AreNewConstants, AreNewVariables, EachIsGiven, IsGiven, names_of}
+use Rattle.jd_taclet_scripts.specs.Given.{AreNewConstants, AreNewVariables, EachIsGiven, IsGiven}
 use Rattle.jd_taclet_scripts.specs.Laws.{IsInShape}
 use Rattle.jd_taclet_scripts.specs.Places.{AreAssumedAt, IsFoundAt, IsOther, MayStandAt, is_calm_place}
 use Rattle.jd_taclet_scripts.specs.Steps.{goal_at, premise_at, premises_of}

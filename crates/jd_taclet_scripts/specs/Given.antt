@@ -1,13 +1,12 @@
 -- What a step gives for a row's variables, as text, and what that stands for.
 use Rattle.std.specs.Prelude.{List, Some, length, map, ◌≡◌, ◌∷◌, ℕ, []}
-use Rattle.jd_call.specs.UseContract.{IsInNoBody}
 use Rattle.jd_declared.specs.Named.{first_named}
 use Rattle.jd_model.specs.Programs.{Program}
 use Rattle.jd_model.specs.Sequents.{PlainSequent}
 use Rattle.jd_names.specs.Tables.{name_table}
 use Rattle.jd_patterns.specs.Instances.{Instance}
-use Rattle.jd_sequent.specs.Freshness.{IsNewConstant, IsNewVariable}
-use Rattle.jd_sequent.specs.Obligations.{PlainTask}
+use Rattle.jd_sequent.specs.Freshness.{IsInNoBody, IsNewConstant, IsNewVariable}
+use Rattle.jd_sequent.specs.Obligations.{PlainTask, names_of}
 use Rattle.jd_syntax.specs.Names.{Declared, Name}
 use Rattle.jd_syntax.specs.Sxs.{Atom, Bracketed}
 use Rattle.jd_taclets.specs.Taclets.{AFormula, ANumber, ATerm, InstVar, NewConstant, NewVariable, asked_sort}
@@ -15,10 +14,6 @@ use Rattle.jd_tforms.specs.Answers.{Is, formula_answer, term_answer}
 use Rattle.jd_tforms.specs.Naming.{constant_of, special_of}
 use Rattle.jd_tforms.specs.Shapes.{integer_of, wide}
 use Rattle.jd_tgrammar.specs.NameTables.{NameTable}
-
--- the names that the text of a step of the task may use
-abbrev pub names_of : PlainTask → NameTable
-names_of t = name_table t.classes.tables (map (λ (v : Declared). v.name) t.obligation.vars)
 
 -- the one that is given by this name
 abbrev pub given_as : List ℕ → List (List ℕ × Bracketed) → (Bracketed → Type 0) → Type 0

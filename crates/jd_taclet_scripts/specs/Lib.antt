@@ -1,5 +1,6 @@
 pub mod Given
 pub mod Places
 pub mod Steps
+pub mod Causes
 pub mod Laws
 pub mod WorkedSteps

@@ -1,0 +1,13 @@
+pub mod Deciding
+pub mod Steadiness
+pub mod Known
+pub mod Binding
+pub mod Leading
+pub mod Finding
+pub mod Giving
+pub mod Assuming
+pub mod NewNames
+pub mod Telling
+pub mod TellingAlike
+pub mod Premises
+pub mod Stages
