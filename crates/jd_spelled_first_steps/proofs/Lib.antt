@@ -1,0 +1,9 @@
+pub mod Sorts
+pub mod ToSorted
+pub mod Focus
+pub mod SimpleTerms
+pub mod TermNames
+pub mod Unspelled
+pub mod Pushes
+pub mod Rewrites
+pub mod Instances

@@ -1,0 +1,3 @@
+pub mod TermNames
+pub mod Focus
+pub mod Laws

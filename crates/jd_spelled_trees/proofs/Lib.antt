@@ -1,0 +1,10 @@
+pub mod Numerals
+pub mod Words
+pub mod FromKnown
+pub mod ToKnown
+pub mod Mapped
+pub mod Indices
+pub mod Leaves
+pub mod Puts
+pub mod Surroundings
+pub mod Places

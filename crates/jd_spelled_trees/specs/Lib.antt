@@ -1,0 +1,4 @@
+pub mod Spelled
+pub mod Surroundings
+pub mod Places
+pub mod Laws
