@@ -1,0 +1,3 @@
+pub mod Instead
+pub mod Made
+pub mod Standing
