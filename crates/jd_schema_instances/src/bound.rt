@@ -11,7 +11,7 @@ use jd_schema_matching::{Entry, PartRef, same_variable};
 
 /// What a variable stands for.
 #[derive(Clone, Copy)]
-pub(crate) enum PartKind {
+pub enum PartKind {
     /// A formula.
     Formula,
     /// A term.
@@ -117,7 +117,7 @@ fn first_of<'t>(entries: &[Entry<'t>], kind: PartKind, n: &[u8]) -> Option<PartR
 }
 
 /// The first part that the variable is bound to.
-pub(crate) fn bound_to<'t>(by: &Chosen<'_, 't>, kind: PartKind, n: &[u8]) -> Option<PartRef<'t>>
+pub fn bound_to<'t>(by: &Chosen<'_, 't>, kind: PartKind, n: &[u8]) -> Option<PartRef<'t>>
     ensures { option_map part_view result ≡ bound_to tests (var_kind kind, n.now) (bindings by.now.found.now) }
 {
     first_of(by.found.entries.as_slice(), kind, n)

@@ -17,7 +17,8 @@ use jd_syntax::{CodeExpr, CodeStmt, Kind, VarId};
 use jd_term::{Formula, Loc, Modality, Term};
 use std::alloc::Global;
 
-pub(crate) fn as_literal(x: Option<PartRef<'_>>) -> i128
+/// The literal that the part is; 0 where it is none.
+pub fn as_literal(x: Option<PartRef<'_>>) -> i128
     ensures { result ≡ as_literal (option_map part_view x.entry) }
 {
     match x {
@@ -26,7 +27,8 @@ pub(crate) fn as_literal(x: Option<PartRef<'_>>) -> i128
     }
 }
 
-pub(crate) fn as_kind(x: Option<PartRef<'_>>) -> Kind
+/// The class, or `int[]`, that the part is; `int[]` where it is neither.
+pub fn as_kind(x: Option<PartRef<'_>>) -> Kind
     ensures { kind_view result ≡ as_kind (option_map part_view x.entry) }
 {
     match x {
@@ -53,7 +55,8 @@ pub(crate) fn as_modality(x: Option<PartRef<'_>>) -> Modality
     }
 }
 
-pub(crate) fn as_field(x: Option<PartRef<'_>>) -> FieldId
+/// The field that the part is; the first one where it is none.
+pub fn as_field(x: Option<PartRef<'_>>) -> FieldId
     ensures { result.0 ≡ as_field (option_map part_view x.entry) }
 {
     match x {
@@ -131,7 +134,8 @@ fn heap_variable(alloc: Global) -> Result<VarId, NoMemory>
     })
 }
 
-pub(crate) fn as_name(alloc: Global, x: Option<PartRef<'_>>) -> Result<VarId, NoMemory>
+/// A copy of the program variable that the part is; the heap's where it is none.
+pub fn as_name(alloc: Global, x: Option<PartRef<'_>>) -> Result<VarId, NoMemory>
     ensures { IfOk result (λ v. var_view v ≡ as_name (option_map part_view x.entry)) }
 {
     match x {
@@ -176,7 +180,8 @@ pub(crate) fn as_return(alloc: Global, x: Option<PartRef<'_>>) -> Result<CodeStm
     }
 }
 
-pub(crate) fn as_term(alloc: Global, x: Option<PartRef<'_>>) -> Result<Term, NoMemory>
+/// A copy of the term that the part is; `null` where it is none.
+pub fn as_term(alloc: Global, x: Option<PartRef<'_>>) -> Result<Term, NoMemory>
     ensures { GivesTerm result (as_term (option_map part_view x.entry)) }
 {
     match x {

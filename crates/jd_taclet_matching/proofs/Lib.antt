@@ -1,0 +1,13 @@
+mod AtPlaces
+mod Binding
+mod Emptiness
+mod Ending
+mod GivenParts
+mod InTwo
+mod Matched
+mod Names
+mod SingleWords
+mod Standing
+mod Texts
+mod Walking
+mod WholeGiven
