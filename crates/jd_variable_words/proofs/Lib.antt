@@ -1,0 +1,9 @@
+mod Good
+mod Tokens
+mod Expressions
+mod Statements
+mod Members
+mod Table
+mod Trees
+mod Filled
+mod Declared
