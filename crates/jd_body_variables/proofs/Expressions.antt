@@ -20,15 +20,15 @@ use Rattle.jd_bodies.specs.Scopes.{Local, meaning}
 use Rattle.jd_bodies.specs.Variables.{Progress, temporary}
 use Rattle.jd_body_variables.proofs.Growing.{Grows, joined, kept, stays}
 
-module _ (L : Type 0) where
+module _ (test : List ℕ → Bool) (L : Type 0) where
   abbrev pub GrowsPart : (Progress → Made) → Type 0
-  GrowsPart f = (p : Progress) → Grows L p (f p).0
+  GrowsPart f = (p : Progress) → Grows test L p (f p).0
 
   abbrev pub GrowsList : (Progress → Progress × List Expr) → Type 0
-  GrowsList f = (p : Progress) → Grows L p (f p).0
+  GrowsList f = (p : Progress) → Grows test L p (f p).0
 
   abbrev pub GrowsArguments : (Progress → Arguments) → Type 0
-  GrowsArguments f = (p : Progress) → Grows L p (f p).progress
+  GrowsArguments f = (p : Progress) → Grows test L p (f p).progress
 
   abbrev pub GrowsTarget : Target → Type 0
   GrowsTarget (ToLocal x t) = Unit {0}
@@ -37,67 +37,67 @@ module _ (L : Type 0) where
   GrowsTarget NoTarget = Unit {0}
 
   -- a part behind others, and in a temporary
-  pub then_part : (f : Progress → Made) (p q : Progress) → GrowsPart f → Grows L p q → Grows L p (f q).0
-  then_part f p q g h = joined L p q (f q).0 h (g q)
+  pub then_part : (f : Progress → Made) (p q : Progress) → GrowsPart f → Grows test L p q → Grows test L p (f q).0
+  then_part f p q g h = joined test L p q (f q).0 h (g q)
 
-  pub then_list : (f : Progress → Progress × List Expr) (p q : Progress) → GrowsList f → Grows L p q → Grows L p (f q).0
-  then_list f p q g h = joined L p q (f q).0 h (g q)
+  pub then_list : (f : Progress → Progress × List Expr) (p q : Progress) → GrowsList f → Grows test L p q → Grows test L p (f q).0
+  then_list f p q g h = joined test L p q (f q).0 h (g q)
 
-  pub then_kept : (t : ValueType) (f : Progress → Made) (p q : Progress) → GrowsPart f → Grows L p q → Grows L p (temporary t (f q).0).0
-  then_kept t f p q g h = kept L t p (f q).0 (then_part f p q g h)
+  pub then_kept : (t : ValueType) (f : Progress → Made) (p q : Progress) → GrowsPart f → Grows test L p q → Grows test L p (temporary t (f q).0).0
+  then_kept t f p q g h = kept test L t p (f q).0 (then_part f p q g h)
 
   pub one_grows : GrowsPart one
-  one_grows p = stays L p
+  one_grows p = stays test L p
 
   -- ---- assignments
 
-  set_grows : (target : Target) (t : ValueType) (v : Progress → Made) (p : Progress) → GrowsTarget target → GrowsPart v → Grows L p (set_value target t v p).progress
-  set_grows (ToLocal x u) t v p is g = then_kept t v p p g (stays L p)
+  set_grows : (target : Target) (t : ValueType) (v : Progress → Made) (p : Progress) → GrowsTarget target → GrowsPart v → Grows test L p (set_value target t v p).progress
+  set_grows (ToLocal x u) t v p is g = then_kept t v p p g (stays test L p)
   set_grows (ToField object ot f u) t v p is g =
-      let o = temporary ot (object p).0 in then_kept t v p o.0 g (then_kept ot object p p is (stays L p))
+      let o = temporary ot (object p).0 in then_kept t v p o.0 g (then_kept ot object p p is (stays test L p))
   set_grows (ToElement a i) t v p is g =
       let o = temporary types.IntArray (a p).0 in
       let j = temporary types.Int (i o.0).0 in
-      then_kept t v p j.0 g (then_kept types.Int i p o.0 is.1 (then_kept types.IntArray a p p is.0 (stays L p)))
-  set_grows NoTarget t v p is g = stays L p
+      then_kept t v p j.0 g (then_kept types.Int i p o.0 is.1 (then_kept types.IntArray a p p is.0 (stays test L p)))
+  set_grows NoTarget t v p is g = stays test L p
 
-  change_grows : (op : BinaryOp) (target : Target) (v : Progress → Made) (p : Progress) → GrowsTarget target → GrowsPart v → Grows L p (change_value op target v p).progress
-  change_grows op (ToLocal x u) v p is g = then_kept types.Int v p p g (stays L p)
+  change_grows : (op : BinaryOp) (target : Target) (v : Progress → Made) (p : Progress) → GrowsTarget target → GrowsPart v → Grows test L p (change_value op target v p).progress
+  change_grows op (ToLocal x u) v p is g = then_kept types.Int v p p g (stays test L p)
   change_grows op (ToField object ot f u) v p is g =
       let o = temporary ot (object p).0 in
       let k = temporary u o.0 in
-      then_kept types.Int v p k.0 g (kept L u p o.0 (then_kept ot object p p is (stays L p)))
+      then_kept types.Int v p k.0 g (kept test L u p o.0 (then_kept ot object p p is (stays test L p)))
   change_grows op (ToElement a i) v p is g =
       let o = temporary types.IntArray (a p).0 in
       let j = temporary types.Int (i o.0).0 in
       let k = temporary types.Int j.0 in
-      then_kept types.Int v p k.0 g (kept L types.Int p j.0 (then_kept types.Int i p o.0 is.1 (then_kept types.IntArray a p p is.0 (stays L p))))
-  change_grows op NoTarget v p is g = stays L p
+      then_kept types.Int v p k.0 g (kept test L types.Int p j.0 (then_kept types.Int i p o.0 is.1 (then_kept types.IntArray a p p is.0 (stays test L p))))
+  change_grows op NoTarget v p is g = stays test L p
 
-  old_grows : (op : BinaryOp) (target : Target) (p : Progress) → GrowsTarget target → Grows L p (old_value op target p).progress
-  old_grows op (ToLocal x u) p is = kept L types.Int p p (stays L p)
+  old_grows : (op : BinaryOp) (target : Target) (p : Progress) → GrowsTarget target → Grows test L p (old_value op target p).progress
+  old_grows op (ToLocal x u) p is = kept test L types.Int p p (stays test L p)
   old_grows op (ToField object ot f u) p is =
-      let o = temporary ot (object p).0 in kept L u p o.0 (then_kept ot object p p is (stays L p))
+      let o = temporary ot (object p).0 in kept test L u p o.0 (then_kept ot object p p is (stays test L p))
   old_grows op (ToElement a i) p is =
       let o = temporary types.IntArray (a p).0 in
       let j = temporary types.Int (i o.0).0 in
-      kept L types.Int p j.0 (then_kept types.Int i p o.0 is.1 (then_kept types.IntArray a p p is.0 (stays L p)))
-  old_grows op NoTarget p is = stays L p
+      kept test L types.Int p j.0 (then_kept types.Int i p o.0 is.1 (then_kept types.IntArray a p p is.0 (stays test L p)))
+  old_grows op NoTarget p is = stays test L p
 
-  assign_grows : (o : Option BinaryOp) (target : Target) (t : ValueType) (v : Progress → Made) (p : Progress) → GrowsTarget target → GrowsPart v → Grows L p (assign_value o target t v p).progress
+  assign_grows : (o : Option BinaryOp) (target : Target) (t : ValueType) (v : Progress → Made) (p : Progress) → GrowsTarget target → GrowsPart v → Grows test L p (assign_value o target t v p).progress
   assign_grows None target t v p is g = set_grows target t v p is g
   assign_grows (Some op) target t v p is g = change_grows op target v p is g
 
   -- ---- names and members
 
-  variable_grows : (v : Option Variable) (p : Progress) (object : Progress → Made) → GrowsPart object → Grows L p (variable_code v p object).0
-  variable_grows None p object g = stays L p
+  variable_grows : (v : Option Variable) (p : Progress) (object : Progress → Made) → GrowsPart object → Grows test L p (variable_code v p object).0
+  variable_grows None p object g = stays test L p
   variable_grows (Some (variables.Field f t)) p object g = g p
-  variable_grows (Some (variables.Constant n)) p object g = stays L p
+  variable_grows (Some (variables.Constant n)) p object g = stays test L p
 
   name_target_grows : (this : ValueType) (x : List ℕ) (m : Meaning) → GrowsTarget (name_target this x m)
   name_target_grows this x (meanings.Local t) = tt
-  name_target_grows this x (meanings.Field f t) = λ p. stays L p
+  name_target_grows this x (meanings.Field f t) = λ p. stays test L p
   name_target_grows this x (meanings.Constant n) = tt
   name_target_grows this x meanings.Nothing = tt
 
@@ -106,7 +106,7 @@ module _ (L : Type 0) where
   field_target_grows object t (Some (variables.Field f u)) g = g
   field_target_grows object t (Some (variables.Constant n)) g = tt
 
-  prefix_grows : (o : PrefixOperator) (target : Target) (minus : Expr → Expr) (part : Progress → Made) (p : Progress) → GrowsTarget target → GrowsPart part → Grows L p (prefix_code o target minus part p).0
+  prefix_grows : (o : PrefixOperator) (target : Target) (minus : Expr → Expr) (part : Progress → Made) (p : Progress) → GrowsTarget target → GrowsPart part → Grows test L p (prefix_code o target minus part p).0
   prefix_grows prefixes.Plus _ minus part p is g = g p
   prefix_grows prefixes.Minus _ minus part p is g = g p
   prefix_grows prefixes.Not _ minus part p is g = g p
@@ -114,13 +114,13 @@ module _ (L : Type 0) where
 
   -- ---- calls, behind what is made so far
 
-  method_grows : (b : Bool) (class : ℕ) (t : ValueType) (m : ℕ) (p : Progress) (object : Made) (arguments : Progress → Progress × List Expr) → Grows L p object.0 → GrowsList arguments → Grows L p (method_by b class t m object arguments).0
-  method_grows true class t m p object arguments g h = let k = temporary t object.0 in then_list arguments p k.0 h (kept L t p object.0 g)
+  method_grows : (b : Bool) (class : ℕ) (t : ValueType) (m : ℕ) (p : Progress) (object : Made) (arguments : Progress → Progress × List Expr) → Grows test L p object.0 → GrowsList arguments → Grows test L p (method_by b class t m object arguments).0
+  method_grows true class t m p object arguments g h = let k = temporary t object.0 in then_list arguments p k.0 h (kept test L t p object.0 g)
   method_grows false class t m p object arguments g h = then_list arguments p object.0 h g
 
   module _ (d : Declarations) where
-    member_grows : (x : List ℕ) (c : Option ℕ) (t : ValueType) (p : Progress) (object : Progress → Made) → GrowsPart object → Grows L p (member_code d x c t p object).0
-    member_grows x (Some c) t p object g = stays L p
+    member_grows : (x : List ℕ) (c : Option ℕ) (t : ValueType) (p : Progress) (object : Progress → Made) → GrowsPart object → Grows test L p (member_code d x c t p object).0
+    member_grows x (Some c) t p object g = stays test L p
     member_grows x None (types.Class c) p object g = variable_grows (d.variable c x) p object g
     member_grows x None types.IntArray p object g = g p
     member_grows x None types.Int p object g = g p
@@ -137,31 +137,31 @@ module _ (L : Type 0) where
     member_target_grows object x None types.Null g = tt
     member_target_grows object x None types.Missing g = tt
 
-    method_on_grows : (class : ℕ) (m : Option ℕ) (p : Progress) (object : Made) (arguments : Progress → Progress × List Expr) → Grows L p object.0 → GrowsList arguments → Grows L p (method_on d class m object arguments).0
+    method_on_grows : (class : ℕ) (m : Option ℕ) (p : Progress) (object : Made) (arguments : Progress → Progress × List Expr) → Grows test L p object.0 → GrowsList arguments → Grows test L p (method_on d class m object arguments).0
     method_on_grows class None p object arguments g h = g
     method_on_grows class (Some m) p object arguments g h = method_grows (d.signature m).static class (types.Class class) m p object arguments g h
 
-    called_grows : (m : List ℕ) (c : Option ℕ) (t : ValueType) (object : Progress → Made) (arguments : Progress → Progress × List Expr) (p : Progress) → GrowsPart object → GrowsList arguments → Grows L p (called d m c t object arguments p).0
+    called_grows : (m : List ℕ) (c : Option ℕ) (t : ValueType) (object : Progress → Made) (arguments : Progress → Progress × List Expr) (p : Progress) → GrowsPart object → GrowsList arguments → Grows test L p (called d m c t object arguments p).0
     called_grows m (Some c) t object arguments p g h = h p
     called_grows m None (types.Class c) object arguments p g h = method_on_grows c (d.method c m) p (object p) arguments (g p) h
-    called_grows m None types.IntArray object arguments p g h = stays L p
-    called_grows m None types.Int object arguments p g h = stays L p
-    called_grows m None types.Boolean object arguments p g h = stays L p
-    called_grows m None types.Null object arguments p g h = stays L p
-    called_grows m None types.Missing object arguments p g h = stays L p
+    called_grows m None types.IntArray object arguments p g h = stays test L p
+    called_grows m None types.Int object arguments p g h = stays test L p
+    called_grows m None types.Boolean object arguments p g h = stays test L p
+    called_grows m None types.Null object arguments p g h = stays test L p
+    called_grows m None types.Missing object arguments p g h = stays test L p
 
-    new_grows : (c : Option ℕ) (arguments : Progress → Arguments) (p : Progress) → GrowsArguments arguments → Grows L p (new_code d c arguments p).0
-    new_grows None arguments p g = stays L p
-    new_grows (Some c) arguments p g = kept L (types.Class c) p (arguments p).progress (g p)
+    new_grows : (c : Option ℕ) (arguments : Progress → Arguments) (p : Progress) → GrowsArguments arguments → Grows test L p (new_code d c arguments p).0
+    new_grows None arguments p g = stays test L p
+    new_grows (Some c) arguments p g = kept test L (types.Class c) p (arguments p).progress (g p)
 
     module _ (place : Place) (locals : List Local) where
       mutual
-        pub code_grows : (e : JavaExpr) (p : Progress) → Grows L p (code_of d place locals e p).0
-        code_grows (java.Integer at n) p = stays L p
-        code_grows (java.Boolean at b) p = stays L p
-        code_grows (java.Null at) p = stays L p
-        code_grows (java.This at) p = stays L p
-        code_grows (java.Name at x) p = stays L p
+        pub code_grows : (e : JavaExpr) (p : Progress) → Grows test L p (code_of d place locals e p).0
+        code_grows (java.Integer at n) p = stays test L p
+        code_grows (java.Boolean at b) p = stays test L p
+        code_grows (java.Null at) p = stays test L p
+        code_grows (java.This at) p = stays test L p
+        code_grows (java.Name at x) p = stays test L p
         code_grows (java.Field at e x) p = member_grows x.name (class_before d place locals e) (type_before d place locals e) p (code_of d place locals e) (code_grows e)
         code_grows (java.Parenthesized at e) p = code_grows e p
         code_grows (java.Call at m es) p = codes_grow es p
@@ -169,7 +169,7 @@ module _ (L : Type 0) where
             called_grows m.name (class_before d place locals e) (type_before d place locals e) (code_of d place locals e) (codes_of d place locals es) p (code_grows e) (codes_grow es)
         code_grows (java.New at c es) p = new_grows (d.class_named c.name) (arguments_of d place locals es) p (arguments_grow es)
         code_grows (java.NewArray at e) p =
-            let k = temporary types.Int (code_of d place locals e p).0 in kept L types.IntArray p k.0 (kept L types.Int p (code_of d place locals e p).0 (code_grows e p))
+            let k = temporary types.Int (code_of d place locals e p).0 in kept test L types.IntArray p k.0 (kept test L types.Int p (code_of d place locals e p).0 (code_grows e p))
         code_grows (java.Index at a i) p = then_part (code_of d place locals i) p (code_of d place locals a p).0 (code_grows i) (code_grows a p)
         code_grows (java.Prefix at o e) p = prefix_grows o (target_of d place locals e) (minus_code e) (code_of d place locals e) p (target_grows e) (code_grows e)
         code_grows (java.Postfix at c e) p = old_grows (count_operation c) (target_of d place locals e) p (target_grows e)
@@ -204,11 +204,11 @@ module _ (L : Type 0) where
         target_grows (java.Assign at o e v) = tt
 
         pub codes_grow : (es : JavaExprs) → GrowsList (codes_of d place locals es)
-        codes_grow java.NoExprs p = stays L p
+        codes_grow java.NoExprs p = stays test L p
         codes_grow (java.ExprThen e es) p = then_list (codes_of d place locals es) p (code_of d place locals e p).0 (codes_grow es) (code_grows e p)
 
         arguments_grow : (es : JavaExprs) → GrowsArguments (arguments_of d place locals es)
-        arguments_grow java.NoExprs p = stays L p
+        arguments_grow java.NoExprs p = stays test L p
         arguments_grow (java.ExprThen e es) p =
             let k = temporary (type_before d place locals e) (code_of d place locals e p).0 in
-            joined L p k.0 (arguments_of d place locals es k.0).progress (kept L (type_before d place locals e) p (code_of d place locals e p).0 (code_grows e p)) (arguments_grow es k.0)
+            joined test L p k.0 (arguments_of d place locals es k.0).progress (kept test L (type_before d place locals e) p (code_of d place locals e p).0 (code_grows e p)) (arguments_grow es k.0)

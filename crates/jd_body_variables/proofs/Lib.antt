@@ -1,3 +1,4 @@
 mod Growing
 mod Expressions
 mod Statements
+mod Ordinary

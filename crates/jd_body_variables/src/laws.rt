@@ -1,4 +1,4 @@
-ghost use Rattle.jd_body_variables.specs.Laws.{BodiesBeginWithParameters, BodyVariablesAreOrdinary};
+ghost use Rattle.jd_body_variables.specs.Laws.{BodiesBeginWithParameters, BodyVariablesAreOrdinary, VariablesAreMadeOfNames};
 
 /// The variables of a body begin with `this`, unless the method is static, and the parameters.
 pub fn bodies_begin_with_parameters()
@@ -8,4 +8,9 @@ pub fn bodies_begin_with_parameters()
 /// None of them is named like a special variable.
 pub fn body_variables_are_ordinary()
     ensures { BodyVariablesAreOrdinary }
+{}
+
+/// Each is `this`, a temporary, or made of the name of a parameter or local that the method declares, whatever test these names pass.
+pub fn variables_are_made_of_names()
+    ensures { VariablesAreMadeOfNames }
 {}

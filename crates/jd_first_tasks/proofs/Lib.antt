@@ -3,6 +3,7 @@ pub mod Moved
 pub mod Shape
 pub mod OnlyCase
 pub mod Rows
+pub mod Unrefused
 pub mod Kept
 mod Formulas
 mod Sorted

@@ -194,7 +194,12 @@ module _ (at : ℕ) (name : PlainIdentifier) (parent : Option PlainIdentifier) (
 -- ---- of any program of the form
 
 pub record TheCase (units : List JavaUnit) (d : Declarations) (lineage : ℕ → List ℕ) (family : ℕ → ℕ) (c : JmlCase) : Type 0 where
+  pub at : ℕ
+  pub name : PlainIdentifier
+  pub parent : Option PlainIdentifier
+  pub end : Option PlainSpecBlock
   pub tree : JavaMethod
+  pub shape : units ≡ with_method at name parent end tree
   pub method : IsMethod d tree
   pub body : option_and_then (body_of_declared d) (slice_get (routines units) 0) ≡ Some (body_with d 10 tree)
   pub variables : variables_of_body units d 0 ≡ (body_of d 10 tree).variables
@@ -212,7 +217,7 @@ module _ (d : Declarations) (lineage : ℕ → List ℕ) (family : ℕ → ℕ) 
       (λ none. absurd (none-some c (sym (ap (λ l. slice_get l 0) none) ∙ first)))
       (λ one.
       let same = same_Some _ c (sym (ap (λ l. slice_get l 0) one) ∙ first) in
-      record { tree = m; method = method; body = refl; variables = refl; is = sym same; only = one ∙ ap (λ x. x ∷ []) same })
+      record { at = at; name = name; parent = parent; end = end; tree = m; shape = refl; method = method; body = refl; variables = refl; is = sym same; only = one ∙ ap (λ x. x ∷ []) same })
       (all_of at name parent end m method.static (builds_none m.result method.gives) lineage d family are method.clauses method.cases)
 
   pub the_case : (units : List JavaUnit) → is_first_form d units ≡ true → HasTheCase units

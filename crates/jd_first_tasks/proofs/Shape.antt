@@ -1,5 +1,6 @@
 -- A program of the first form is one class with one method.
-use Rattle.std.proofs.Common.{◌≡◌, arith, ℕ, suc, ◌==◌, ◌&&◌, Bool, true, false, true≢false, List, [], ◌∷◌, length, Option, refl, sym}
+use Rattle.std.proofs.Common.{◌≡◌, arith, ℕ, suc, ◌==◌, ◌&&◌, nat_le, Bool, true, false, true≢false, List, [], ◌∷◌, length, Option, refl, sym}
+use Rattle.std.specs.List.{list_all}
 use Rattle.std.proofs.lemmas.Bool.{eqb-true}
 use Rattle.jd_syntax.specs.JavaTypes.{PlainIdentifier}
 use Rattle.jd_syntax.specs.JavaTrees.{JavaMember, FieldMember, ConstantMember, MethodMember, JavaClass, JavaMethod, JavaUnit}
@@ -10,7 +11,7 @@ use Rattle.jd_bodies.specs.Declarations.{Declarations}
 use Rattle.jd_specifications.specs.WrittenCases.{cases_of}
 use Rattle.jd_jml_written.specs.Marked.{class_invariants}
 use Rattle.jd_first_form.specs.Conditions.{all_comparisons, are_few}
-use Rattle.jd_first_form.specs.Forms.{are_one_case, class_count, comparison_limit, gives_int, has_signature, is_first_form, is_member_form, is_method_form, is_straight}
+use Rattle.jd_first_form.specs.Forms.{are_one_case, class_count, comparison_limit, gives_int, has_signature, is_first_form, is_member_form, is_method_form, is_straight, parameter_limit, takes_int}
 
 pub left_of_and : (a b : Bool) → (a && b) ≡ true → a ≡ true
 left_of_and true b e = refl
@@ -57,6 +58,8 @@ one_case (c ∷ k ∷ cs) e = absurd (true≢false (sym e))
 pub record IsMethod (d : Declarations) (m : JavaMethod) : Type 0 where
   pub static : m.is_static ≡ true
   pub gives : gives_int m.result ≡ true
+  pub few_parameters : nat_le (length m.parameters) parameter_limit ≡ true
+  pub ints : list_all takes_int m.parameters ≡ true
   pub clauses : List PlainClause
   pub cases : cases_of m.specs ≡ clauses ∷ []
   pub few : are_few comparison_limit (all_comparisons clauses) ≡ true
@@ -65,11 +68,15 @@ pub record IsMethod (d : Declarations) (m : JavaMethod) : Type 0 where
 pub is_method : (d : Declarations) (m : JavaMethod) → is_method_form d m ≡ true → IsMethod d m
 is_method d m e =
     let signature : has_signature m ≡ true = left_of_and (has_signature m) _ e in
+    let result_and_parameters = right_of_and m.is_static _ signature in
+    let parameters_ = right_of_and (gives_int m.result) _ result_and_parameters in
     let behind = right_of_and (has_signature m) _ e in
     let case = one_case (cases_of m.specs) (left_of_and (are_one_case (cases_of m.specs)) _ behind) in
     record {
       static = left_of_and m.is_static _ signature;
-      gives = left_of_and (gives_int m.result) _ (right_of_and m.is_static _ signature);
+      gives = left_of_and (gives_int m.result) _ result_and_parameters;
+      few_parameters = left_of_and (nat_le (length m.parameters) parameter_limit) _ parameters_;
+      ints = right_of_and (nat_le (length m.parameters) parameter_limit) _ parameters_;
       clauses = case.0;
       cases = case.1;
       few = case.2;

@@ -1,0 +1,5 @@
+mod Values
+mod Expressions
+mod Clauses
+mod Tokens
+mod Trees
