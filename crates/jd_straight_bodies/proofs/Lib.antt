@@ -1,0 +1,8 @@
+mod Found
+mod Words
+mod Named
+mod Simple
+mod Lines
+mod Effects
+mod Statements
+mod Whole
