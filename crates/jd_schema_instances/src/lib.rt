@@ -22,6 +22,6 @@ pub use heads::{
     instance_class, instance_kind, instance_modality, instance_name, instance_result, instance_sort,
 };
 pub use laws::instances_are_alike;
-pub use parts::{as_field, as_kind, as_literal, as_name, as_term};
+pub use parts::{as_field, as_kind, as_literal, as_name, as_sort};
 pub use statements::{instance_code, instance_stmt};
 pub use terms::{instance_loc, instance_term};

@@ -37,7 +37,8 @@ pub fn as_kind(x: Option<PartRef<'_>>) -> Kind
     }
 }
 
-pub(crate) fn as_sort(x: Option<PartRef<'_>>) -> Sort
+/// The sort that the part is; `Int` where it is none.
+pub fn as_sort(x: Option<PartRef<'_>>) -> Sort
     ensures { result ≡ as_sort (option_map part_view x.entry) }
 {
     match x {
@@ -180,8 +181,7 @@ pub(crate) fn as_return(alloc: Global, x: Option<PartRef<'_>>) -> Result<CodeStm
     }
 }
 
-/// A copy of the term that the part is; `null` where it is none.
-pub fn as_term(alloc: Global, x: Option<PartRef<'_>>) -> Result<Term, NoMemory>
+pub(crate) fn as_term(alloc: Global, x: Option<PartRef<'_>>) -> Result<Term, NoMemory>
     ensures { GivesTerm result (as_term (option_map part_view x.entry)) }
 {
     match x {

@@ -7,11 +7,7 @@ use jd_base::NoMemory;
 use jd_sequent::Bad;
 
 /// What was made, where all of it was; else the cause.
-pub(crate) fn ended<T: Drop>(
-    whole: Result<bool, NoMemory>,
-    made: T,
-    otherwise: Bad,
-) -> Result<T, Bad>
+pub fn ended<T: Drop>(whole: Result<bool, NoMemory>, made: T, otherwise: Bad) -> Result<T, Bad>
     ensures { result ≡ ended whole made otherwise }
 {
     match whole {

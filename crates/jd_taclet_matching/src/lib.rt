@@ -13,9 +13,11 @@ mod owned;
 mod reading;
 mod sides;
 
+pub use answers::ended;
 pub use assuming::assumed;
 pub use finding::found;
 pub use fresh::are_new;
 pub use giving::parts_given;
 pub use laws::given_in_two;
 pub use owned::{OwnedEntry, OwnedPart, bound_behind};
+pub use reading::is_sort;

@@ -37,7 +37,7 @@ use jd_twords::{variable_told, word_term};
 use std::alloc::Global;
 
 /// Whether both are one sort.
-pub(crate) fn is_sort(a: Sort, b: Sort) -> bool
+pub fn is_sort(a: Sort, b: Sort) -> bool
     ensures { result ≡ same_sort a b }
 {
     match (a, b) {
