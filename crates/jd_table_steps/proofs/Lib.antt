@@ -1,0 +1,3 @@
+pub mod Causing
+pub mod Tables
+pub mod Rows

@@ -1,0 +1,10 @@
+mod Machines
+mod Having
+mod Sames
+mod Standing
+mod Given
+mod Within
+mod Working
+mod Concluding
+mod Lent
+mod Answering
