@@ -1,0 +1,4 @@
+pub mod Data
+pub mod Said
+pub mod Names
+pub mod Gives
