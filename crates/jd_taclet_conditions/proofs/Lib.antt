@@ -1,7 +1,2 @@
-mod Apart
 mod Grouped
-mod Inherited
-mod Lines
-mod Renaming
-mod Tables
 mod Telling

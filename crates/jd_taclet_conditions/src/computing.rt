@@ -9,28 +9,25 @@ ghost use Rattle.jd_schema_trees.specs.HeadViews.{sort_pattern};
 ghost use Rattle.jd_schema_trees.specs.TacletViews.{calculation, number_test};
 ghost use Rattle.jd_sequent.specs.Obligations.{task_view};
 ghost use Rattle.jd_taclet_stages.specs.Conditions.{Fixes, condition_told, fixing};
-ghost use Rattle.jd_taclets.specs.Conditions.{Calculated, DeclaredBy, DefaultExpr, DefaultTerm, FieldHasSort, FieldRefersTo, InvariantsOf, TypingOf, WhetherBelow, WhetherNumbers, typing};
+ghost use Rattle.jd_taclets.specs.Conditions.{Calculated, DeclaredBy, DefaultExpr, DefaultTerm, FieldHasSort, FieldRefersTo, WhetherBelow, WhetherNumbers, typing};
 ghost use Rattle.jd_term.specs.Formulas.{PlainFormula};
 ghost use Rattle.jd_term.specs.Makers.{GivesFormula};
 ghost use Rattle.jd_term.specs.TermViews.{term_view};
 ghost use Rattle.jd_told_programs.specs.Told.{told_setting};
-ghost use Rattle.jd_taclet_conditions.specs.Lent.{term_or};
+ghost use Rattle.jd_told_tables.specs.Lent.{term_or};
 ghost use Rattle.jd_taclet_conditions.specs.Telling.{told_view};
 
-use crate::classes::is_below;
-use crate::fields::field_of;
-use crate::invariants::invariant;
 use crate::lent::{field_bound, kind_bound, sort_meant, sort_of_name, term_bound};
 use crate::numbers::{calculate, literal_part};
 use crate::parts::{default_expr, default_term, passed, truth, typed};
 use crate::told::{Told, fixed, fixing};
-use crate::types::{declared, field_sort, field_type, referred};
 use jd_base::{FieldId, NoMemory};
 use jd_schema_instances::Chosen;
 use jd_schema_trees::{Calculation, NumberTest, SSort};
 use jd_sequent::Task;
 use jd_taclet_matching::OwnedPart;
 use jd_term::{Formula, Term};
+use jd_told_tables::{declared, field_of, field_sort, field_type, is_below, referred};
 use std::alloc::Global;
 
 /// That the variable stands for what the field refers to, where the term is such a one.
@@ -130,15 +127,18 @@ pub(crate) fn declared_by<'t>(
     fixing(k, declared(task, field_of(term_bound(by, f))))
 }
 
-// That the variable stands for the formula, where it was made.
-fn formula_fixed<'t>(k: &'t [u8], made: Result<Formula, NoMemory>) -> Result<Told<'t>, NoMemory>
+/// That the variable stands for the formula, where it was made.
+pub(crate) fn formula_fixed<'t>(
+    k: &'t [u8],
+    made: Result<Formula, NoMemory>,
+) -> Result<Told<'t>, NoMemory>
     ensures { (a : PlainFormula) → GivesFormula made a → IfOk result (λ x. told_view x ≡ Fixes k.now (TheFormula a)) }
 {
     Ok(fixed(k, OwnedPart::Formula(made?)))
 }
 
-// That the variable stands for the typing of what is stored to the field, where there is one.
-fn typing_fixed<'t>(
+/// That the variable stands for the typing of what is stored to the field, where there is one.
+pub(crate) fn typing_fixed<'t>(
     alloc: Global,
     task: &Task<'_>,
     k: &'t [u8],
@@ -152,50 +152,4 @@ fn typing_fixed<'t>(
         Some(field) => formula_fixed(k, typed(alloc, field_type(task, field), heap, value)),
         None => Ok(Told::Fails),
     }
-}
-
-/// That the variable stands for the typing of what is stored, where the term is a named field.
-pub(crate) fn typing_of<'t>(
-    alloc: Global,
-    task: &Task<'_>,
-    by: &Chosen<'_, '_>,
-    k: &'t [u8],
-    f: &[u8],
-    h: &[u8],
-    s: &[u8],
-) -> Result<Told<'t>, NoMemory>
-    ensures { IfOk result (λ x. told_view x ≡ condition_told tests (task_view task.now) (instance_by by.now) (TypingOf k.now f.now h.now s.now)) }
-{
-    typing_fixed(
-        alloc,
-        task,
-        k,
-        field_of(term_bound(by, f)),
-        term_bound(by, h),
-        term_bound(by, s),
-    )
-}
-
-/// That the variable stands for what the invariants of the kind say.
-pub(crate) fn invariants_of<'t>(
-    alloc: Global,
-    task: &Task<'_>,
-    by: &Chosen<'_, '_>,
-    k: &'t [u8],
-    c: &[u8],
-    h: &[u8],
-    o: &[u8],
-) -> Result<Told<'t>, NoMemory>
-    ensures { IfOk result (λ x. told_view x ≡ condition_told tests (task_view task.now) (instance_by by.now) (InvariantsOf k.now c.now h.now o.now)) }
-{
-    formula_fixed(
-        k,
-        invariant(
-            alloc,
-            task,
-            kind_bound(by, c),
-            term_bound(by, h),
-            term_bound(by, o),
-        ),
-    )
 }

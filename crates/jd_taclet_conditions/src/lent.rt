@@ -12,7 +12,7 @@ ghost use Rattle.jd_term.specs.Formulas.{formula_view};
 ghost use Rattle.jd_term.specs.TermViews.{term_view};
 ghost use Rattle.jd_term.specs.Terms.{sort_of_term};
 ghost use Rattle.jd_told_programs.specs.Told.{told_setting};
-ghost use Rattle.jd_taclet_conditions.specs.Lent.{formula_or, term_or};
+ghost use Rattle.jd_told_tables.specs.Lent.{formula_or, term_or};
 
 use jd_base::{FieldId, Sort};
 use jd_schema_instances::{Chosen, PartKind, as_field, as_kind, as_literal, as_sort, bound_to};

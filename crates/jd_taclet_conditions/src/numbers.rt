@@ -13,7 +13,7 @@ ghost use Rattle.jd_taclets.specs.Conditions.{passes};
 ghost use Rattle.jd_term.specs.declared.term.ArithmeticOp.TheVariants.{Divide, Remainder};
 
 use crate::lent::literal_bound;
-use jd_base::{jmod, wrap32};
+use jd_base::{jdiv, jmod, wrap32};
 use jd_schema_instances::Chosen;
 use jd_schema_trees::{Calculation, NumberTest};
 use jd_taclet_matching::OwnedPart;
@@ -23,10 +23,10 @@ use jd_term::ArithmeticOp;
 fn divided(x: i128, y: i128) -> Option<i128>
     ensures { result ≡ if_fits (arithmetic Divide x y) }
 {
-    if y == 0 {
-        return Some(0);
+    if x == i128::MIN && y == -1 {
+        return None;
     }
-    x.checked_div(y)
+    Some(jdiv(x, y))
 }
 
 // The remainder, which fits.

@@ -11,18 +11,17 @@ ghost use Rattle.jd_taclets.specs.Conditions.{default_expr, default_term, passes
 ghost use Rattle.jd_term.specs.Formulas.{formula_view};
 ghost use Rattle.jd_term.specs.Makers.{GivesFormula};
 ghost use Rattle.jd_term.specs.TermViews.{term_view};
-ghost use Rattle.jd_taclet_conditions.specs.Lent.{term_or};
-ghost use Rattle.jd_taclet_conditions.specs.Types.{type_meant};
+ghost use Rattle.jd_told_tables.specs.Lent.{term_or};
+ghost use Rattle.jd_told_tables.specs.Types.{type_meant};
 
 use crate::numbers::passes;
-use crate::renamed::copied;
-use crate::types::FieldType;
 use jd_base::{NoMemory, Sort};
 use jd_row_makers::{and, created, equal, in_int, instance, or};
 use jd_schema_trees::NumberTest;
 use jd_syntax::{CodeExpr, Kind};
 use jd_taclet_matching::OwnedPart;
 use jd_term::{Formula, Term};
+use jd_told_tables::{FieldType, copied};
 use std::alloc::Global;
 
 /// `true` or `false`

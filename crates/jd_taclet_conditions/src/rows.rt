@@ -15,9 +15,10 @@ ghost use Rattle.jd_taclet_stages.specs.Stages.{going};
 ghost use Rattle.jd_taclet_conditions.specs.Telling.{computed_told, in_groups, looked_told, or_told, test_told, told_of, told_view, with_told};
 
 use crate::computing::{
-    calculated, declared_by, default_of_name, default_of_sort, invariants_of, refers_to,
-    sort_of_field, typing_of, whether_below, whether_numbers,
+    calculated, declared_by, default_of_name, default_of_sort, formula_fixed, refers_to,
+    sort_of_field, typing_fixed, whether_below, whether_numbers,
 };
+use crate::lent::{kind_bound, term_bound};
 use crate::testing::{
     at_least_zero, field_takes, fields_apart, has_sort, kind_below, kinds_differ, named_field,
     steady,
@@ -29,6 +30,7 @@ use jd_schema_instances::Chosen;
 use jd_schema_trees::{Taclet, VarCond};
 use jd_sequent::{Bad, Task};
 use jd_taclet_matching::{OwnedEntry, ended};
+use jd_told_tables::{field_of, invariant};
 use std::alloc::Global;
 
 // Whether the condition holds, where it is a test.
@@ -75,8 +77,14 @@ fn looked_up<'t>(
         VarCond::WhetherBelow(k, d, e) => Ok(whether_below(task, by, k, d, e)),
         VarCond::FieldHasSort(k, f) => Ok(sort_of_field(task, by, k, f)),
         VarCond::DeclaredBy(k, f) => Ok(declared_by(task, by, k, f)),
-        VarCond::TypingOf(k, f, h, s) => typing_of(alloc, task, by, k, f, h, s),
-        VarCond::InvariantsOf(k, d, h, o) => invariants_of(alloc, task, by, k, d, h, o),
+        VarCond::TypingOf(k, f, h, s) => {
+            let field = field_of(term_bound(by, f));
+            typing_fixed(alloc, task, k, field, term_bound(by, h), term_bound(by, s))
+        }
+        VarCond::InvariantsOf(k, d, h, o) => {
+            let (heap, object) = (term_bound(by, h), term_bound(by, o));
+            formula_fixed(k, invariant(alloc, task, kind_bound(by, d), heap, object))
+        }
         _ => Ok(Told::Stands),
     }
 }

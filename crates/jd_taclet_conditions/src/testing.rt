@@ -13,17 +13,15 @@ ghost use Rattle.jd_taclet_stages.specs.Conditions.{Fails, condition_told, teste
 ghost use Rattle.jd_taclets.specs.Conditions.{AtLeastZero, FieldTakes, FieldsApart, KindBelow, KindsDiffer, NamedFieldTerm, SteadyIn, TermHasSort};
 ghost use Rattle.jd_told_programs.specs.Told.{told_setting};
 
-use crate::classes::is_below;
-use crate::fields::{are_apart, field_of, is_named_field};
-use crate::kinds::is_kind;
 use crate::lent::{formula_bound, kind_bound, lent_sort, literal_bound, sort_meant, term_bound};
-use crate::steady::is_steady;
-use crate::types::field_sort;
 use jd_base::{FieldId, NoMemory, Sort};
 use jd_schema_instances::Chosen;
 use jd_schema_trees::SSort;
 use jd_sequent::Task;
 use jd_taclet_matching::is_sort;
+use jd_told_tables::{
+    are_apart, field_of, field_sort, is_below, is_kind, is_named_field, is_steady,
+};
 
 /// Whether the term may be put for the index 0 of the formula.
 pub(crate) fn steady(

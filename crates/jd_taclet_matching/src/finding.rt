@@ -71,8 +71,8 @@ fn has_formula(sequent: &Sequent, place: &Place) -> bool
     }
 }
 
-// Whether the pattern can stand for what stands there, with what was found.
-fn match_node<'t>(
+/// Whether the pattern can stand for what stands there, with what was found. The error is `NoMemory` alone.
+pub fn match_node<'t>(
     find: &'t Option<Pattern>,
     node: Node<'t>,
     found: &mut Found<'t>,

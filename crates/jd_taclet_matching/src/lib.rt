@@ -15,7 +15,7 @@ mod sides;
 
 pub use answers::ended;
 pub use assuming::assumed;
-pub use finding::found;
+pub use finding::{found, match_node};
 pub use fresh::are_new;
 pub use giving::parts_given;
 pub use laws::given_in_two;

@@ -1,0 +1,5 @@
+mod Apart
+mod Inherited
+mod Lines
+mod Renaming
+mod Tables
