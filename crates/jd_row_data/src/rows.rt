@@ -55,22 +55,32 @@ fn one_goal(
     with(Vec::new(alloc), goal)
 }
 
+// What a row asks for beside what is found.
+#[derive(Drop)]
+struct Asked<'d> {
+    assumes: &'d [(Side, FormulaData)],
+    given: &'d [GivenData],
+    conds: &'d [ConditionData],
+}
+
 // The row of these parts.
 fn whole(
     alloc: Global,
     name: &[u8],
     kind: TacletKind,
     find: Result<Option<Pattern>, NoMemory>,
-    assumes: &[(Side, FormulaData)],
-    given: &[GivenData],
-    conds: &[ConditionData],
+    asked: &Asked<'_>,
     goals: Result<Vec<TacletGoal>, NoMemory>,
 ) -> Result<Taclet, NoMemory>
     ensures { (p : Option plain.Pattern) (l : List plain.TacletGoal) → GivesPattern find p → GivesGoals goals l
-        → IfOk result (λ r. taclet r ≡ (record { name = name.now; kind = taclet_kind kind; find = p; assumes = map assumed_data assumes.now; insts = map (given_data given.now) given.now; conds = map condition_data conds.now; goals = l })) }
+        → IfOk result (λ r. taclet r ≡ (record { name = name.now; kind = taclet_kind kind; find = p; assumes = map assumed_data asked.now.assumes.now; insts = map (given_data asked.now.given.now) asked.now.given.now; conds = map condition_data asked.now.conds.now; goals = l })) }
 {
-    let found = both(find, assumptions(alloc, assumes));
-    let told = both(variables(alloc, given), conditions(alloc, given, conds));
+    let given = asked.given;
+    let found = both(find, assumptions(alloc, asked.assumes));
+    let told = both(
+        variables(alloc, given),
+        conditions(alloc, given, asked.conds),
+    );
     let named = both(copy_bytes(alloc, name), goals);
     let ((find, assumes), ((insts, conds), (name, goals))) = both(found, both(told, named))?;
     Ok(Taclet {
@@ -98,9 +108,11 @@ pub fn row_of(alloc: Global, r: &RowData) -> Result<Taclet, NoMemory>
             n,
             TacletKind::Left,
             formula_find(alloc, f),
-            a,
-            g,
-            c,
+            &Asked {
+                assumes: a,
+                given: g,
+                conds: c,
+            },
             goals(alloc, l),
         ),
         RowData::RightRow(n, f, a, g, c, l) => whole(
@@ -108,9 +120,11 @@ pub fn row_of(alloc: Global, r: &RowData) -> Result<Taclet, NoMemory>
             n,
             TacletKind::Right,
             formula_find(alloc, f),
-            a,
-            g,
-            c,
+            &Asked {
+                assumes: a,
+                given: g,
+                conds: c,
+            },
             goals(alloc, l),
         ),
         RowData::FreeRow(n, g, c, l) => whole(
@@ -118,9 +132,11 @@ pub fn row_of(alloc: Global, r: &RowData) -> Result<Taclet, NoMemory>
             n,
             TacletKind::Free,
             Ok(None),
-            &[],
-            g,
-            c,
+            &Asked {
+                assumes: &[],
+                given: g,
+                conds: c,
+            },
             goals(alloc, l),
         ),
         RowData::FormulaRow(n, f, a, g, c, r) => whole(
@@ -128,9 +144,11 @@ pub fn row_of(alloc: Global, r: &RowData) -> Result<Taclet, NoMemory>
             n,
             TacletKind::Formula,
             formula_find(alloc, f),
-            a,
-            g,
-            c,
+            &Asked {
+                assumes: a,
+                given: g,
+                conds: c,
+            },
             one_goal(alloc, formula_find(alloc, r)),
         ),
         RowData::TermRow(n, f, a, c, r) => whole(
@@ -138,9 +156,11 @@ pub fn row_of(alloc: Global, r: &RowData) -> Result<Taclet, NoMemory>
             n,
             TacletKind::Term,
             term_find(alloc, f),
-            a,
-            &[],
-            c,
+            &Asked {
+                assumes: a,
+                given: &[],
+                conds: c,
+            },
             one_goal(alloc, term_find(alloc, r)),
         ),
     }

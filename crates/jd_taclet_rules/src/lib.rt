@@ -7,6 +7,6 @@ mod stages;
 mod table;
 
 pub use machine::machine_classes;
-pub use rules::{TacletRules, apply_row};
+pub use rules::{TacletRule, apply_row};
 pub use stages::goals_of_step;
 pub use table::row_named;

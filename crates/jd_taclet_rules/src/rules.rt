@@ -26,7 +26,7 @@ use std::alloc::Global;
 
 /// The rows of logic and of integers as rules.
 #[derive(Drop)]
-pub struct TacletRules {
+pub struct TacletRule {
     /// The rows.
     pub rows: Vec<Taclet>,
 }
@@ -80,7 +80,17 @@ pub fn apply_row(
     }
 }
 
-impl Rule for TacletRules {
+impl TacletRule {
+    /// The rows as rules.
+    pub fn new(table: Vec<Taclet>) -> TacletRule
+        requires { map taclet table.items ≡ rule_rows }
+        ensures { map taclet result.rows.items ≡ rule_rows }
+    {
+        TacletRule { rows: table }
+    }
+}
+
+impl Rule for TacletRule {
     ghost accepts = { λ r t s. (map taclet r.rows.items ≡ rule_rows) × IsSpelledSequent (names_of t) s };
 
     ghost instance = { λ r t s p ps. IsTacletStep rule_rows t s p ps };

@@ -23,6 +23,16 @@ use jd_taclet_matching::{OwnedEntry, are_new, assumed, bound_behind, found, part
 use jd_taclet_premises::{GoalParts, goals};
 use std::alloc::Global;
 
+// A step as the stages work it out: in its task, by its row, at its sequent.
+#[derive(Drop)]
+struct Application<'t> {
+    task: &'t Task<'t>,
+    row: &'t Taclet,
+    sequent: &'t Sequent,
+    step: &'t Step,
+    machine: MachineClasses,
+}
+
 // What the goals say under the bindings that all stages found.
 fn goals_by(
     alloc: Global,
@@ -43,25 +53,23 @@ fn goals_by(
 // The last stage: with what the conditions tell.
 fn with_told<'t>(
     alloc: Global,
-    task: &Task<'_>,
-    row: &'t Taclet,
+    at: &Application<'t>,
     found: &Found<'t>,
-    machine: MachineClasses,
     told: Vec<OwnedEntry<'t>>,
 ) -> Result<Vec<GoalParts>, Bad>
-    requires classes { AreMachineClasses (task_view task.now) machine }
-    requires have { HaveInstancesAfter (task_view task.now) (taclet row.now) (going SideCondition (bind_all tests (owned_entries told) (bindings found.now))) }
-    ensures { Concludes (task_view task.now) (taclet row.now) (going SideCondition (bind_all tests (owned_entries told.entry) (bindings found.now))) result }
+    requires classes { AreMachineClasses (task_view at.now.task.now) at.now.machine }
+    requires have { HaveInstancesAfter (task_view at.now.task.now) (taclet at.now.row.now) (going SideCondition (bind_all tests (owned_entries told) (bindings found.now))) }
+    ensures { Concludes (task_view at.now.task.now) (taclet at.now.row.now) (going SideCondition (bind_all tests (owned_entries told.entry) (bindings found.now))) result }
 {
     match bound_behind(alloc, found, told.as_slice(), Bad::SideCondition) {
         Err(bad) => Err(bad),
         Ok(found) => goals_by(
             alloc,
-            task,
-            row,
+            at.task,
+            at.row,
             &Chosen {
                 found: &found,
-                machine,
+                machine: at.machine,
             },
         ),
     }
@@ -70,99 +78,97 @@ fn with_told<'t>(
 // What the conditions tell.
 fn with_conditions<'t>(
     alloc: Global,
-    task: &Task<'_>,
-    row: &'t Taclet,
+    at: &Application<'t>,
     found: &Found<'t>,
-    machine: MachineClasses,
 ) -> Result<Vec<GoalParts>, Bad>
-    requires classes { AreMachineClasses (task_view task.now) machine }
-    requires have { HaveInstancesAfter (task_view task.now) (taclet row.now) (condition_stage tests (task_view task.now) (taclet row.now) (bindings found.now)) }
-    ensures { Concludes (task_view task.now) (taclet row.now) (condition_stage tests (task_view task.now) (taclet row.now) (bindings found.now)) result }
+    requires classes { AreMachineClasses (task_view at.now.task.now) at.now.machine }
+    requires have { HaveInstancesAfter (task_view at.now.task.now) (taclet at.now.row.now) (condition_stage tests (task_view at.now.task.now) (taclet at.now.row.now) (bindings found.now)) }
+    ensures { Concludes (task_view at.now.task.now) (taclet at.now.row.now) (condition_stage tests (task_view at.now.task.now) (taclet at.now.row.now) (bindings found.now)) result }
 {
-    match conditions(alloc, task, row, &Chosen { found, machine }) {
+    let machine = at.machine;
+    match conditions(alloc, at.task, at.row, &Chosen { found, machine }) {
         Err(bad) => Err(bad),
-        Ok(told) => with_told(alloc, task, row, found, machine, told),
+        Ok(told) => with_told(alloc, at, found, told),
     }
 }
 
 // Whether new names are new.
 fn with_new<'t>(
     alloc: Global,
-    task: &Task<'_>,
-    row: &'t Taclet,
-    sequent: &Sequent,
+    at: &Application<'t>,
     found: &Found<'t>,
-    machine: MachineClasses,
 ) -> Result<Vec<GoalParts>, Bad>
-    requires classes { AreMachineClasses (task_view task.now) machine }
-    requires have { HaveInstancesAfter (task_view task.now) (taclet row.now) (new_stage tests (task_view task.now) (sequent_view sequent.now) (taclet row.now) (bindings found.now)) }
-    ensures { Concludes (task_view task.now) (taclet row.now) (new_stage tests (task_view task.now) (sequent_view sequent.now) (taclet row.now) (bindings found.now)) result }
+    requires classes { AreMachineClasses (task_view at.now.task.now) at.now.machine }
+    requires have { HaveInstancesAfter (task_view at.now.task.now) (taclet at.now.row.now) (new_stage tests (task_view at.now.task.now) (sequent_view at.now.sequent.now) (taclet at.now.row.now) (bindings found.now)) }
+    ensures { Concludes (task_view at.now.task.now) (taclet at.now.row.now) (new_stage tests (task_view at.now.task.now) (sequent_view at.now.sequent.now) (taclet at.now.row.now) (bindings found.now)) result }
 {
-    match are_new(alloc, task, sequent, row, &Chosen { found, machine }) {
+    let machine = at.machine;
+    match are_new(
+        alloc,
+        at.task,
+        at.sequent,
+        at.row,
+        &Chosen { found, machine },
+    ) {
         Err(_) => Err(Bad::NoMemory),
         Ok(false) => Err(Bad::NotFresh),
-        Ok(true) => with_conditions(alloc, task, row, found, machine),
+        Ok(true) => with_conditions(alloc, at, found),
     }
 }
 
 // What is assumed.
 fn with_assumed<'t>(
     alloc: Global,
-    task: &Task<'_>,
-    row: &'t Taclet,
-    sequent: &'t Sequent,
-    step: &Step,
+    at: &Application<'t>,
     found: Found<'t>,
-    machine: MachineClasses,
 ) -> Result<Vec<GoalParts>, Bad>
-    requires classes { AreMachineClasses (task_view task.now) machine }
-    requires have { HaveInstancesAfter (task_view task.now) (taclet row.now) (assumed_stage tests (task_view task.now) (sequent_view sequent.now) (taclet row.now) (step_view step.now) (bindings found)) }
-    ensures { Concludes (task_view task.now) (taclet row.now) (assumed_stage tests (task_view task.now) (sequent_view sequent.now) (taclet row.now) (step_view step.now) (bindings found.entry)) result }
+    requires classes { AreMachineClasses (task_view at.now.task.now) at.now.machine }
+    requires have { HaveInstancesAfter (task_view at.now.task.now) (taclet at.now.row.now) (assumed_stage tests (task_view at.now.task.now) (sequent_view at.now.sequent.now) (taclet at.now.row.now) (step_view at.now.step.now) (bindings found)) }
+    ensures { Concludes (task_view at.now.task.now) (taclet at.now.row.now) (assumed_stage tests (task_view at.now.task.now) (sequent_view at.now.sequent.now) (taclet at.now.row.now) (step_view at.now.step.now) (bindings found.entry)) result }
 {
-    match assumed(sequent, row, step, found) {
+    match assumed(at.sequent, at.row, at.step, found) {
         Err(bad) => Err(bad),
-        Ok(found) => with_new(alloc, task, row, sequent, &found, machine),
+        Ok(found) => with_new(alloc, at, &found),
     }
 }
 
 // With what is given.
 fn with_given<'t>(
     alloc: Global,
-    task: &Task<'_>,
-    row: &'t Taclet,
-    sequent: &'t Sequent,
-    step: &Step,
+    at: &Application<'t>,
     found: &Found<'t>,
-    machine: MachineClasses,
     given: Vec<OwnedEntry<'t>>,
 ) -> Result<Vec<GoalParts>, Bad>
-    requires classes { AreMachineClasses (task_view task.now) machine }
-    requires have { HaveInstancesAfter (task_view task.now) (taclet row.now) (and_then (going BadInst (bind_all tests (owned_entries given) (bindings found.now))) (assumed_stage tests (task_view task.now) (sequent_view sequent.now) (taclet row.now) (step_view step.now))) }
-    ensures { Concludes (task_view task.now) (taclet row.now) (and_then (going BadInst (bind_all tests (owned_entries given.entry) (bindings found.now))) (assumed_stage tests (task_view task.now) (sequent_view sequent.now) (taclet row.now) (step_view step.now))) result }
+    requires classes { AreMachineClasses (task_view at.now.task.now) at.now.machine }
+    requires have { HaveInstancesAfter (task_view at.now.task.now) (taclet at.now.row.now) (and_then (going BadInst (bind_all tests (owned_entries given) (bindings found.now))) (assumed_stage tests (task_view at.now.task.now) (sequent_view at.now.sequent.now) (taclet at.now.row.now) (step_view at.now.step.now))) }
+    ensures { Concludes (task_view at.now.task.now) (taclet at.now.row.now) (and_then (going BadInst (bind_all tests (owned_entries given.entry) (bindings found.now))) (assumed_stage tests (task_view at.now.task.now) (sequent_view at.now.sequent.now) (taclet at.now.row.now) (step_view at.now.step.now))) result }
 {
     match bound_behind(alloc, found, given.as_slice(), Bad::BadInst) {
         Err(bad) => Err(bad),
-        Ok(found) => with_assumed(alloc, task, row, sequent, step, found, machine),
+        Ok(found) => with_assumed(alloc, at, found),
     }
 }
 
 // What is given.
 fn after_found<'t>(
     alloc: Global,
-    task: &Task<'_>,
-    row: &'t Taclet,
-    sequent: &'t Sequent,
-    step: &Step,
+    at: &Application<'t>,
     found: &Found<'t>,
-    machine: MachineClasses,
 ) -> Result<Vec<GoalParts>, Bad>
-    requires classes { AreMachineClasses (task_view task.now) machine }
-    requires have { HaveInstancesAfter (task_view task.now) (taclet row.now) (and_then (given_stage tests (task_view task.now) (taclet row.now).insts (step_view step.now).insts (bindings found.now)) (assumed_stage tests (task_view task.now) (sequent_view sequent.now) (taclet row.now) (step_view step.now))) }
-    ensures { Concludes (task_view task.now) (taclet row.now) (and_then (given_stage tests (task_view task.now) (taclet row.now).insts (step_view step.now).insts (bindings found.now)) (assumed_stage tests (task_view task.now) (sequent_view sequent.now) (taclet row.now) (step_view step.now))) result }
+    requires classes { AreMachineClasses (task_view at.now.task.now) at.now.machine }
+    requires have { HaveInstancesAfter (task_view at.now.task.now) (taclet at.now.row.now) (and_then (given_stage tests (task_view at.now.task.now) (taclet at.now.row.now).insts (step_view at.now.step.now).insts (bindings found.now)) (assumed_stage tests (task_view at.now.task.now) (sequent_view at.now.sequent.now) (taclet at.now.row.now) (step_view at.now.step.now))) }
+    ensures { Concludes (task_view at.now.task.now) (taclet at.now.row.now) (and_then (given_stage tests (task_view at.now.task.now) (taclet at.now.row.now).insts (step_view at.now.step.now).insts (bindings found.now)) (assumed_stage tests (task_view at.now.task.now) (sequent_view at.now.sequent.now) (taclet at.now.row.now) (step_view at.now.step.now))) result }
 {
-    match parts_given(alloc, task, row, &step.insts, &Chosen { found, machine }) {
+    let machine = at.machine;
+    match parts_given(
+        alloc,
+        at.task,
+        at.row,
+        &at.step.insts,
+        &Chosen { found, machine },
+    ) {
         Err(bad) => Err(bad),
-        Ok(given) => with_given(alloc, task, row, sequent, step, found, machine, given),
+        Ok(given) => with_given(alloc, at, found, given),
     }
 }
 
@@ -183,14 +189,16 @@ pub fn goals_of_step(
 {
     match found(alloc, row, sequent, &step.place) {
         Err(bad) => Err(bad),
-        Ok(found) => after_found(
-            alloc,
-            task,
-            row,
-            sequent,
-            step,
-            &found,
-            machine_classes(task),
-        ),
+        Ok(found) => {
+            let machine = machine_classes(task);
+            let at = Application {
+                task,
+                row,
+                sequent,
+                step,
+                machine,
+            };
+            after_found(alloc, &at, &found)
+        }
     }
 }

@@ -19,7 +19,7 @@ returns c = λ p l f g.
       kind = taclet_kind c.args.kind;
       find = held _ _ _ f found.0 i;
       assumes = held _ _ _ c.assumptions.ensures found.1 i;
-      insts = variables_are c.args.given.now c.args.conds.now c.in_ok-find.conds.items said c.in_ok-find.insts.items names i;
-      conds = conditions_are c.args.given.now c.args.conds.now c.in_ok-find.conds.items said i;
+      insts = variables_are c.args.asked.now.given.now c.args.asked.now.conds.now c.in_ok-find.conds.items said c.in_ok-find.insts.items names i;
+      conds = conditions_are c.args.asked.now.given.now c.args.asked.now.conds.now c.in_ok-find.conds.items said i;
       goals = held _ _ _ g named.1 i;
     }

@@ -15,11 +15,11 @@ use Rattle.jd_taclet_rules.proofs.stages.after_found.Goals as goal
 pub with_given-requires : goal.with_given-requires
 with_given-requires c = record {
   classes = c.requires.classes;
-  have = have_given (task_view c.args.task.now) (taclet c.args.row.now) (step_view c.args.step.now).insts (bindings c.args.found.now) (owned_entries c.in-Ok.given)
-      (assumed_stage tests (task_view c.args.task.now) (sequent_view c.args.sequent.now) (taclet c.args.row.now) (step_view c.args.step.now)) (subst (λ l. given_told (task_view c.args.task.now) (taclet c.args.row.now).insts (map inst_view l) (chosen tests (bindings c.args.found.now)) ≡ Goes (owned_entries c.in-Ok.given)) c.deref.ensures.value c.in-Ok.ensures) c.requires.have;
+  have = have_given (task_view c.args.at.now.task.now) (taclet c.args.at.now.row.now) (step_view c.args.at.now.step.now).insts (bindings c.args.found.now) (owned_entries c.in-Ok.given)
+      (assumed_stage tests (task_view c.args.at.now.task.now) (sequent_view c.args.at.now.sequent.now) (taclet c.args.at.now.row.now) (step_view c.args.at.now.step.now)) (subst (λ l. given_told (task_view c.args.at.now.task.now) (taclet c.args.at.now.row.now).insts (map inst_view l) (chosen tests (bindings c.args.found.now)) ≡ Goes (owned_entries c.in-Ok.given)) c.deref.ensures.value c.in-Ok.ensures) c.requires.have;
 }
 
 pub returns-in-Ok : goal.returns-in-Ok
 returns-in-Ok c =
-    concludes_given (task_view c.args.task.now) (taclet c.args.row.now) (step_view c.args.step.now).insts (bindings c.args.found.now) (owned_entries c.in-Ok.given)
-    (assumed_stage tests (task_view c.args.task.now) (sequent_view c.args.sequent.now) (taclet c.args.row.now) (step_view c.args.step.now)) (subst (λ l. given_told (task_view c.args.task.now) (taclet c.args.row.now).insts (map inst_view l) (chosen tests (bindings c.args.found.now)) ≡ Goes (owned_entries c.in-Ok.given)) c.deref.ensures.value c.in-Ok.ensures) c.with_given.result c.with_given.ensures
+    concludes_given (task_view c.args.at.now.task.now) (taclet c.args.at.now.row.now) (step_view c.args.at.now.step.now).insts (bindings c.args.found.now) (owned_entries c.in-Ok.given)
+    (assumed_stage tests (task_view c.args.at.now.task.now) (sequent_view c.args.at.now.sequent.now) (taclet c.args.at.now.row.now) (step_view c.args.at.now.step.now)) (subst (λ l. given_told (task_view c.args.at.now.task.now) (taclet c.args.at.now.row.now).insts (map inst_view l) (chosen tests (bindings c.args.found.now)) ≡ Goes (owned_entries c.in-Ok.given)) c.deref.ensures.value c.in-Ok.ensures) c.with_given.result c.with_given.ensures

@@ -11,7 +11,7 @@ use Rattle.jd_table_steps.specs.Usable.{IsUsable}
 use Rattle.jd_taclet_scripts.specs.Steps.{row_named}
 use Rattle.jd_taclet_rules.specs.Premises.{IsAnswerOfRow}
 use Rattle.jd_taclet_rules.proofs.Answering.{answered}
-use Rattle.jd_taclet_rules.proofs.rules.TacletRulesRule.apply.Goals as goal
+use Rattle.jd_taclet_rules.proofs.rules.TacletRuleRule.apply.Goals as goal
 
 pub apply_row-requires : goal.apply_row-requires
 apply_row-requires c =
