@@ -5,5 +5,3 @@ pub mod OnlyCase
 pub mod Rows
 pub mod Unrefused
 pub mod Kept
-mod Formulas
-mod Sorted

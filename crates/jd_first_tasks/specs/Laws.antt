@@ -6,7 +6,6 @@ use Rattle.jd_files.specs.Files.{AreTrees}
 use Rattle.jd_refusals.specs.Refusals.{IsFirst}
 use Rattle.jd_sequent.specs.Obligations.{PlainTask}
 use Rattle.jd_sequent.specs.TaskMeaning.{StepIsSound}
-use Rattle.jd_update_truth.specs.SortedFormulas.{SortedSequent}
 use Rattle.jd_jml_meaning.specs.JmlCases.{JmlCase, JmlKept, JmlProgram}
 use Rattle.jd_programs.specs.Programs.{IsProgram}
 use Rattle.jd_first_tasks.specs.Tasks.{IsFirstTask}
@@ -14,10 +13,6 @@ use Rattle.jd_first_tasks.specs.Tasks.{IsFirstTask}
 -- files have one such task
 abbrev pub OneFirstTask : Type 0
 OneFirstTask = (units : List JavaUnit) → AreClasses units → (q r : PlainTask) → IsFirstTask units q → IsFirstTask units r → q ≡ r
-
--- the rules take its sequent
-abbrev pub FirstTasksAreSorted : Type 0
-FirstTasksAreSorted = (units : List JavaUnit) (q : PlainTask) → IsFirstTask units q → SortedSequent q.obligation.sequent
 
 -- where it is closed by sound steps, each case of each program that the files mean is kept
 abbrev pub ClosedFirstTasksAreKept : Type 0

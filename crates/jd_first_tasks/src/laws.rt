@@ -1,4 +1,4 @@
-ghost use Rattle.jd_first_tasks.specs.Laws.{ClosedFirstTasksAreKept, FirstTasksAreSorted, OneFirstTask};
+ghost use Rattle.jd_first_tasks.specs.Laws.{ClosedFirstTasksAreKept, OneFirstTask};
 
 use jd_body_variables::body_variables_are_ordinary;
 use jd_declaration_laws::declarations_are_one;
@@ -19,11 +19,6 @@ pub fn one_first_task()
     declarations_are_one();
     classes_are_one();
 }
-
-/// Its sequent is sorted.
-pub fn first_tasks_are_sorted()
-    ensures { FirstTasksAreSorted }
-{}
 
 /// Where it is closed by sound steps, each case of each program that the files mean is kept as JML says it.
 pub fn closed_first_tasks_are_kept()

@@ -3,4 +3,4 @@
 
 mod laws;
 
-pub use laws::{closed_first_tasks_are_kept, first_tasks_are_sorted, one_first_task};
+pub use laws::{closed_first_tasks_are_kept, one_first_task};

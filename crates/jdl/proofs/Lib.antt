@@ -1,5 +1,4 @@
 pub mod Completeness
-pub mod FirstReplay
+pub mod Replay
 pub mod KeptPrograms
 pub mod Outcomes
-pub mod SortedObligations

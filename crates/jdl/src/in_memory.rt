@@ -2,7 +2,7 @@ ghost use Rattle.std.specs.Prelude.{◌≡◌, ◌≢◌, []};
 ghost use Rattle.jd_base.specs.InMemory.{contents_of, room_left};
 ghost use Rattle.jd_answer.specs.Words.{word_texts};
 ghost use Rattle.jdl.specs.Completeness.{AreHeld, HasRoom};
-ghost use Rattle.jdl.specs.FirstReplay.{first_leads, first_causes};
+ghost use Rattle.jdl.specs.Replay.{rule_leads, rule_causes};
 
 use crate::{Status, run};
 use jd_base::{MemoryLibrary, MemorySink};
@@ -19,7 +19,7 @@ pub fn run_in_memory(
     ensures no_read_fault { library.old.fails ≡ [] → AreHeld (word_texts words.now) library.old.files
         → result ≢ Status.ReadFault }
     ensures no_write_fault { sink.old.fails ≡ [] → AreHeld (word_texts words.now) library.old.files
-        → HasRoom first_leads first_causes (word_texts words.now) (contents_of library.old.files) (room_left sink.old)
+        → HasRoom rule_leads rule_causes (word_texts words.now) (contents_of library.old.files) (room_left sink.old)
         → result ≢ Status.WriteFault }
 {
     run(alloc, words, library, sink)

@@ -1,46 +1,42 @@
 use Rattle.std.proofs.Common.{◌∙◌, sym, inr}
-use Rattle.jd_update_truth.specs.SortedFormulas.{SortedSequent}
+use Rattle.jd_rules.specs.Steps.{IsTaken}
 use Rattle.jd_answer.specs.Words.{word_texts}
 use Rattle.jd_answer.specs.declared.status.Status.TheVariants.{Done, NotAccepted, Usage, RefusedSource, RefusedScript, Limit}
-use Rattle.jdl.specs.FirstReplay.{first_leads, first_causes}
+use Rattle.jdl.specs.Replay.{rule_leads, rule_causes}
 use Rattle.jdl.proofs.Completeness.{ends_in_order, no_read_fault, written_is_no_fault}
-use Rattle.jdl.proofs.FirstReplay.{first_one_way, first_has_no_cause, first_derivations_are_sound}
+use Rattle.jdl.proofs.Replay.{derivations_by_rules_are_sound, obligations_are_taken, rules_have_no_cause, rules_one_way}
 use Rattle.jdl.proofs.KeptPrograms.{accepted_is_kept}
 use Rattle.jdl.proofs.Outcomes.{answered_so, answer_done, answer_not_accepted, answer_refused_source, answer_refused_script, answer_limit}
-use Rattle.jdl.proofs.SortedObligations.{obligations_are_sorted}
 use Rattle.jdl.proofs.run.Goals as goal
-
-pub answer_to-requires : goal.answer_to-requires
-answer_to-requires g c = record { accepts = obligations_are_sorted c.first_tasks_are_sorted.ensures }
 
 pub returns-in-Ok-clause-accepted : goal.returns-in-Ok-clause-accepted
 returns-in-Ok-clause-accepted g c = λ is told.
-    answer_done first_leads first_causes (word_texts c.args.words.now) (g.L.Library.contents c.args.library.now) _ _ (c.in-Ok.ensures.answer told) (answered_so _ _ Done c.write_answer.ensures.either (λ e. cc) is)
+    answer_done rule_leads rule_causes (word_texts c.args.words.now) (g.L.Library.contents c.args.library.now) _ _ (c.in-Ok.ensures.answer told) (answered_so _ _ Done c.write_answer.ensures.either (λ e. cc) is)
 
 pub returns-in-Ok-clause-kept : goal.returns-in-Ok-clause-kept
 returns-in-Ok-clause-kept g c = λ is told.
-    accepted_is_kept c.one_refusal.ensures c.closed_first_tasks_are_kept.ensures first_leads (λ q s. SortedSequent s) (word_texts c.args.words.now) (g.L.Library.contents c.args.library.now) (obligations_are_sorted c.first_tasks_are_sorted.ensures) first_derivations_are_sound
-    (answer_done first_leads first_causes (word_texts c.args.words.now) (g.L.Library.contents c.args.library.now) _ _ (c.in-Ok.ensures.answer told) (answered_so _ _ Done c.write_answer.ensures.either (λ e. cc) is))
+    accepted_is_kept c.one_refusal.ensures c.closed_first_tasks_are_kept.ensures rule_leads (λ q s. IsTaken q s) (word_texts c.args.words.now) (g.L.Library.contents c.args.library.now) (obligations_are_taken c.first_tasks_are_spelled.ensures) derivations_by_rules_are_sound
+    (answer_done rule_leads rule_causes (word_texts c.args.words.now) (g.L.Library.contents c.args.library.now) _ _ (c.in-Ok.ensures.answer told) (answered_so _ _ Done c.write_answer.ensures.either (λ e. cc) is))
 
 pub returns-in-Ok-clause-not_accepted : goal.returns-in-Ok-clause-not_accepted
 returns-in-Ok-clause-not_accepted g c = λ is told.
-    answer_not_accepted first_leads first_causes (word_texts c.args.words.now) (g.L.Library.contents c.args.library.now) first_one_way first_has_no_cause _ _ (c.in-Ok.ensures.answer told) (answered_so _ _ NotAccepted c.write_answer.ensures.either (λ e. cc) is)
+    answer_not_accepted rule_leads rule_causes (word_texts c.args.words.now) (g.L.Library.contents c.args.library.now) rules_one_way rules_have_no_cause _ _ (c.in-Ok.ensures.answer told) (answered_so _ _ NotAccepted c.write_answer.ensures.either (λ e. cc) is)
 
 pub returns-in-Ok-clause-refused_source : goal.returns-in-Ok-clause-refused_source
 returns-in-Ok-clause-refused_source g c = λ is told.
-    answer_refused_source first_leads first_causes (word_texts c.args.words.now) (g.L.Library.contents c.args.library.now) _ _ (c.in-Ok.ensures.answer told) (answered_so _ _ RefusedSource c.write_answer.ensures.either (λ e. cc) is)
+    answer_refused_source rule_leads rule_causes (word_texts c.args.words.now) (g.L.Library.contents c.args.library.now) _ _ (c.in-Ok.ensures.answer told) (answered_so _ _ RefusedSource c.write_answer.ensures.either (λ e. cc) is)
 
 pub returns-in-Ok-clause-refused_script : goal.returns-in-Ok-clause-refused_script
 returns-in-Ok-clause-refused_script g c = λ is told.
-    answer_refused_script first_leads first_causes (word_texts c.args.words.now) (g.L.Library.contents c.args.library.now) _ _ (c.in-Ok.ensures.answer told) (answered_so _ _ RefusedScript c.write_answer.ensures.either (λ e. cc) is)
+    answer_refused_script rule_leads rule_causes (word_texts c.args.words.now) (g.L.Library.contents c.args.library.now) _ _ (c.in-Ok.ensures.answer told) (answered_so _ _ RefusedScript c.write_answer.ensures.either (λ e. cc) is)
 
 pub returns-in-Ok-clause-limit : goal.returns-in-Ok-clause-limit
 returns-in-Ok-clause-limit g c = λ is told.
-    answer_limit first_leads first_causes (word_texts c.args.words.now) (g.L.Library.contents c.args.library.now) _ _ (c.in-Ok.ensures.answer told) (answered_so _ _ Limit c.write_answer.ensures.either (λ e. cc) is)
+    answer_limit rule_leads rule_causes (word_texts c.args.words.now) (g.L.Library.contents c.args.library.now) _ _ (c.in-Ok.ensures.answer told) (answered_so _ _ Limit c.write_answer.ensures.either (λ e. cc) is)
 
 pub returns-in-Ok-clause-complete : goal.returns-in-Ok-clause-complete
 returns-in-Ok-clause-complete g c = λ told order calm.
-    ends_in_order first_leads first_causes (word_texts c.args.words.now) (g.L.Library.contents c.args.library.now) _ _ _ _ _ order calm
+    ends_in_order rule_leads rule_causes (word_texts c.args.words.now) (g.L.Library.contents c.args.library.now) _ _ _ _ _ order calm
     (λ is. c.in-Ok.ensures.usage (answered_so _ _ Usage c.write_answer.ensures.either (λ e. cc) is))
     (λ is. absurd (no_read_fault _ _ c.in-Ok.ensures.written c.write_answer.ensures.either is))
     (λ is. c.write_answer.ensures.fault is (λ same. written_is_no_fault _ c.in-Ok.ensures.written (inr same)))
