@@ -8,7 +8,7 @@ ghost use Rattle.jd_row_data.specs.Data.{comparison, connective, formula_data, q
 ghost use Rattle.jd_row_data.specs.Gives.{GivesFormula, GivesName, GivesSort, GivesTerm};
 
 use crate::data::{Comparison, Connective, FormulaData, Quantifier};
-use crate::terms::{sort, term};
+use crate::terms::{boxed_term, sort, term};
 use jd_base::{NoMemory, both, copy_bytes};
 use jd_lists::boxed;
 use jd_schema_trees::{SFormula, SSort, STerm};
@@ -20,10 +20,14 @@ fn any_formula(name: Result<Vec<u8>, NoMemory>) -> Result<SFormula, NoMemory>
     Ok(SFormula::Any(name?))
 }
 
-fn put_in(name: Result<Vec<u8>, NoMemory>, t: Result<STerm, NoMemory>) -> Result<SFormula, NoMemory>
+fn put_in(
+    alloc: Global,
+    name: Result<Vec<u8>, NoMemory>,
+    t: Result<STerm, NoMemory>,
+) -> Result<SFormula, NoMemory>
     ensures { (n : List ℕ) (x : TermPattern) → GivesName name n → GivesTerm t x → GivesFormula result (plain.PutIn n x) }
 {
-    let (name, t) = both(name, t)?;
+    let (name, t) = both(name, boxed_term(alloc, t))?;
     Ok(SFormula::Put(name, t))
 }
 
@@ -40,15 +44,16 @@ fn not(alloc: Global, a: Result<SFormula, NoMemory>) -> Result<SFormula, NoMemor
     Ok(SFormula::Not(part(alloc, a)?))
 }
 
-// Two parts in boxes.
-fn parts(
-    alloc: Global,
-    a: Result<SFormula, NoMemory>,
-    b: Result<SFormula, NoMemory>,
-) -> Result<(Box<SFormula>, Box<SFormula>), NoMemory>
-    ensures { (x y : FormulaPattern) → GivesFormula a x → GivesFormula b y → IfOk result (λ p. (formula_pattern p.0.value ≡ x) × (formula_pattern p.1.value ≡ y)) }
+// What joins both.
+fn joined_by(k: Connective, a: Box<SFormula>, b: Box<SFormula>) -> SFormula
+    ensures { formula_pattern result ≡ plain.Connected (connective k) (formula_pattern a.value) (formula_pattern b.value) }
 {
-    both(part(alloc, a), part(alloc, b))
+    match k {
+        Connective::And => SFormula::And(a, b),
+        Connective::Or => SFormula::Or(a, b),
+        Connective::Implies => SFormula::Implies(a, b),
+        Connective::Iff => SFormula::Iff(a, b),
+    }
 }
 
 fn connected(
@@ -59,23 +64,19 @@ fn connected(
 ) -> Result<SFormula, NoMemory>
     ensures { (x y : FormulaPattern) → GivesFormula a x → GivesFormula b y → GivesFormula result (plain.Connected (connective k) x y) }
 {
-    let (a, b) = parts(alloc, a, b)?;
-    match k {
-        Connective::And => Ok(SFormula::And(a, b)),
-        Connective::Or => Ok(SFormula::Or(a, b)),
-        Connective::Implies => Ok(SFormula::Implies(a, b)),
-        Connective::Iff => Ok(SFormula::Iff(a, b)),
-    }
+    let (a, b) = both(part(alloc, a), part(alloc, b))?;
+    Ok(joined_by(k, a, b))
 }
 
 fn compared(
+    alloc: Global,
     k: Comparison,
     t: Result<STerm, NoMemory>,
     u: Result<STerm, NoMemory>,
 ) -> Result<SFormula, NoMemory>
     ensures { (x y : TermPattern) → GivesTerm t x → GivesTerm u y → GivesFormula result (plain.Compared (comparison k) x y) }
 {
-    let (t, u) = both(t, u)?;
+    let (t, u) = both(boxed_term(alloc, t), boxed_term(alloc, u))?;
     match k {
         Comparison::Equal => Ok(SFormula::Equal(t, u)),
         Comparison::Less => Ok(SFormula::Less(t, u)),
@@ -98,10 +99,10 @@ fn quantified(
     }
 }
 
-fn in_int(t: Result<STerm, NoMemory>) -> Result<SFormula, NoMemory>
+fn in_int(alloc: Global, t: Result<STerm, NoMemory>) -> Result<SFormula, NoMemory>
     ensures { (x : TermPattern) → GivesTerm t x → GivesFormula result (Tested InIntOf x) }
 {
-    Ok(SFormula::InInt(t?))
+    Ok(SFormula::InInt(boxed_term(alloc, t)?))
 }
 
 /// The formula of a row.
@@ -110,7 +111,7 @@ pub(crate) fn formula(alloc: Global, a: &FormulaData) -> Result<SFormula, NoMemo
 {
     match a {
         FormulaData::AnyFormula(n) => any_formula(copy_bytes(alloc, n)),
-        FormulaData::PutIn(n, t) => put_in(copy_bytes(alloc, n), term(alloc, t)),
+        FormulaData::PutIn(n, t) => put_in(alloc, copy_bytes(alloc, n), term(alloc, t)),
         FormulaData::True => Ok(SFormula::TrueFormula),
         FormulaData::False => Ok(SFormula::FalseFormula),
         FormulaData::Not(a) => not(alloc, formula(alloc, a)),
@@ -120,13 +121,13 @@ pub(crate) fn formula(alloc: Global, a: &FormulaData) -> Result<SFormula, NoMemo
             formula(alloc, a),
             formula(alloc, b),
         ),
-        FormulaData::Compared(k, t, u) => compared(*k, term(alloc, t), term(alloc, u)),
+        FormulaData::Compared(k, t, u) => compared(alloc, *k, term(alloc, t), term(alloc, u)),
         FormulaData::Quantified(k, s, a) => quantified(
             alloc,
             *k,
             sort(alloc, s),
             formula(alloc, a),
         ),
-        FormulaData::InInt(t) => in_int(term(alloc, t)),
+        FormulaData::InInt(t) => in_int(alloc, term(alloc, t)),
     }
 }

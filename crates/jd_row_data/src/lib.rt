@@ -4,6 +4,7 @@
 mod conditions;
 mod data;
 mod formulas;
+mod growing;
 mod lists;
 mod rows;
 mod terms;
@@ -12,4 +13,4 @@ pub use data::{
     CalculationData, Comparison, ConditionData, Connective, FormData, FormulaData, GivenData,
     GoalData, Quantifier, RowData, SortData, TermData,
 };
-pub use rows::{row_of, rows_of};
+pub use rows::{joined_rows, row_of, rows_of};

@@ -1,32 +1,35 @@
 //! The parts of a row that are several.
 
-ghost use Rattle.std.specs.Prelude.{◌≡◌, ◌++◌, IfOk, None, map};
-ghost use Rattle.jd_schema_trees.specs.FormulaViews.{formula_pattern};
-ghost use Rattle.jd_schema_trees.specs.TacletViews.{assumption, goal};
+ghost use Rattle.std.specs.Prelude.{◌++◌, None, map};
 ghost use Rattle.jd_row_data.specs.Data.{assumed_data, formula_data, goal_data};
-ghost use Rattle.jd_row_data.specs.Names.{given_name, inst_name};
-ghost use Rattle.jd_row_data.specs.Said.{said, said_of_condition, said_of_given};
+ghost use Rattle.jd_row_data.specs.Gives.{GivesAssumption, GivesAssumptions, GivesFormulas, GivesGoal, GivesGoals, GivesVariable, GivesVariables, SayAll};
+ghost use Rattle.jd_row_data.specs.Names.{given_name};
+ghost use Rattle.jd_row_data.specs.Said.{said_of_condition, said_of_given};
 
 use crate::conditions::{given, holding};
 use crate::data::{ConditionData, FormData, FormulaData, GivenData, GoalData};
 use crate::formulas::formula;
+use crate::growing::{
+    no_items, with_assumption, with_condition, with_formula, with_goal, with_variable,
+};
 use jd_base::{NoMemory, both, copy_bytes};
+use jd_lists::appended;
 use jd_model::Side;
 use jd_schema_trees::{InstVar, SFormula, TacletGoal, VarCond};
 use std::alloc::Global;
 
 fn formulas(alloc: Global, all: &[FormulaData]) -> Result<Vec<SFormula>, NoMemory>
-    ensures { IfOk result (λ v. map formula_pattern v.items ≡ map formula_data all.now) }
+    ensures { GivesFormulas result (map formula_data all.now) }
 {
-    let mut made = Vec::with_capacity(alloc, all.len())?;
+    let mut made = no_items(alloc, all.len());
     for a in all {
-        made.push(formula(alloc, a)?)?;
+        made = with_formula(made, formula(alloc, a));
     }
-    Ok(made)
+    made
 }
 
 fn assumption(alloc: Global, a: &(Side, FormulaData)) -> Result<(Side, SFormula), NoMemory>
-    ensures { IfOk result (λ x. assumption x ≡ assumed_data a.now) }
+    ensures { GivesAssumption result (assumed_data a.now) }
 {
     Ok((a.0, formula(alloc, &a.1)?))
 }
@@ -36,13 +39,13 @@ pub(crate) fn assumptions(
     alloc: Global,
     all: &[(Side, FormulaData)],
 ) -> Result<Vec<(Side, SFormula)>, NoMemory>
-    ensures { IfOk result (λ v. map assumption v.items ≡ map assumed_data all.now) }
+    ensures { GivesAssumptions result (map assumed_data all.now) }
 {
-    let mut made = Vec::with_capacity(alloc, all.len())?;
+    let mut made = no_items(alloc, all.len());
     for a in all {
-        made.push(assumption(alloc, a)?)?;
+        made = with_assumption(made, assumption(alloc, a));
     }
-    Ok(made)
+    made
 }
 
 fn premise(
@@ -51,7 +54,7 @@ fn premise(
     left: &[FormulaData],
     right: &[FormulaData],
 ) -> Result<TacletGoal, NoMemory>
-    ensures { IfOk result (λ n. goal n ≡ (record { keep = keep; replace = None; left = map formula_data left.now; right = map formula_data right.now })) }
+    ensures { GivesGoal result (record { keep = keep; replace = None; left = map formula_data left.now; right = map formula_data right.now }) }
 {
     let (left, right) = both(formulas(alloc, left), formulas(alloc, right))?;
     Ok(TacletGoal {
@@ -63,7 +66,7 @@ fn premise(
 }
 
 fn one_goal(alloc: Global, n: &GoalData) -> Result<TacletGoal, NoMemory>
-    ensures { IfOk result (λ m. goal m ≡ goal_data n.now) }
+    ensures { GivesGoal result (goal_data n.now) }
 {
     match n {
         GoalData::Goal(left, right) => premise(alloc, false, left, right),
@@ -73,13 +76,13 @@ fn one_goal(alloc: Global, n: &GoalData) -> Result<TacletGoal, NoMemory>
 
 /// The premises.
 pub(crate) fn goals(alloc: Global, all: &[GoalData]) -> Result<Vec<TacletGoal>, NoMemory>
-    ensures { IfOk result (λ v. map goal v.items ≡ map goal_data all.now) }
+    ensures { GivesGoals result (map goal_data all.now) }
 {
-    let mut made = Vec::with_capacity(alloc, all.len())?;
+    let mut made = no_items(alloc, all.len());
     for n in all {
-        made.push(one_goal(alloc, n)?)?;
+        made = with_goal(made, one_goal(alloc, n));
     }
-    Ok(made)
+    made
 }
 
 fn is_new(form: &FormData) -> bool {
@@ -90,7 +93,7 @@ fn is_new(form: &FormData) -> bool {
 }
 
 fn variable(alloc: Global, g: &GivenData) -> Result<InstVar, NoMemory>
-    ensures { IfOk result (λ v. inst_name v ≡ given_name g.now) }
+    ensures { GivesVariable result (given_name g.now) }
 {
     let name = copy_bytes(alloc, g.0)?;
     Ok(InstVar {
@@ -101,33 +104,33 @@ fn variable(alloc: Global, g: &GivenData) -> Result<InstVar, NoMemory>
 
 /// The variables for which a step gives what they stand for.
 pub(crate) fn variables(alloc: Global, all: &[GivenData]) -> Result<Vec<InstVar>, NoMemory>
-    ensures { IfOk result (λ v. map inst_name v.items ≡ map given_name all.now) }
+    ensures { GivesVariables result (map given_name all.now) }
 {
-    let mut made = Vec::with_capacity(alloc, all.len())?;
+    let mut made = no_items(alloc, all.len());
     for g in all {
-        made.push(variable(alloc, g)?)?;
+        made = with_variable(made, variable(alloc, g));
     }
-    Ok(made)
+    made
 }
 
 fn forms(alloc: Global, all: &[GivenData]) -> Result<Vec<VarCond>, NoMemory>
-    ensures { IfOk result (λ v. map said v.items ≡ map said_of_given all.now) }
+    ensures { SayAll result (map said_of_given all.now) }
 {
-    let mut made = Vec::with_capacity(alloc, all.len())?;
+    let mut made = no_items(alloc, all.len());
     for g in all {
-        made.push(given(alloc, g)?)?;
+        made = with_condition(made, given(alloc, g));
     }
-    Ok(made)
+    made
 }
 
 fn holdings(alloc: Global, all: &[ConditionData]) -> Result<Vec<VarCond>, NoMemory>
-    ensures { IfOk result (λ v. map said v.items ≡ map said_of_condition all.now) }
+    ensures { SayAll result (map said_of_condition all.now) }
 {
-    let mut made = Vec::with_capacity(alloc, all.len())?;
+    let mut made = no_items(alloc, all.len());
     for c in all {
-        made.push(holding(alloc, c)?)?;
+        made = with_condition(made, holding(alloc, c));
     }
-    Ok(made)
+    made
 }
 
 /// The forms of what a step gives, and then the conditions.
@@ -136,9 +139,8 @@ pub(crate) fn conditions(
     given: &[GivenData],
     all: &[ConditionData],
 ) -> Result<Vec<VarCond>, NoMemory>
-    ensures { IfOk result (λ v. map said v.items ≡ map said_of_given given.now ++ map said_of_condition all.now) }
+    ensures { SayAll result (map said_of_given given.now ++ map said_of_condition all.now) }
 {
-    let (mut forms, mut others) = both(forms(alloc, given), holdings(alloc, all))?;
-    forms.append(&mut others)?;
-    Ok(forms)
+    let (forms, others) = both(forms(alloc, given), holdings(alloc, all))?;
+    appended(forms, others)
 }

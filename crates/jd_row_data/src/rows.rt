@@ -1,18 +1,20 @@
 //! The rows that a table holds.
 
-ghost use Rattle.std.specs.Prelude.{◌≡◌, ◌∷◌, [], IfOk, List, Option, Some, false, map};
+ghost use Rattle.std.specs.Prelude.{◌≡◌, ◌++◌, ◌∷◌, [], IfOk, List, Option, Some, false, map};
 ghost use Rattle.jd_schema_trees.specs.TacletViews.{goal, taclet, taclet_kind};
 ghost use Rattle.jd_taclets.specs.Taclets as plain;
 ghost use Rattle.jd_taclets.specs.Taclets.{FormulaFind, TermFind};
 ghost use Rattle.jd_row_data.specs.Data.{assumed_data, condition_data, formula_data, given_data, row_data, term_data};
 ghost use Rattle.jd_row_data.specs.Gives.{GivesGoals, GivesPattern};
+ghost use Rattle.jd_row_data.specs.Tables.{GivesRow, GivesRows};
 
 use crate::data::{ConditionData, FormulaData, GivenData, RowData, TermData};
 use crate::formulas::formula;
+use crate::growing::{no_items, with_row};
 use crate::lists::{assumptions, conditions, goals, variables};
 use crate::terms::term;
 use jd_base::{NoMemory, both, copy_bytes};
-use jd_lists::with;
+use jd_lists::{appended, with};
 use jd_model::Side;
 use jd_schema_trees::{Pattern, Taclet, TacletGoal, TacletKind};
 use std::alloc::Global;
@@ -100,7 +102,7 @@ fn whole(
 ///
 /// `NoMemory` if memory runs out.
 pub fn row_of(alloc: Global, r: &RowData) -> Result<Taclet, NoMemory>
-    ensures { IfOk result (λ x. taclet x ≡ row_data r.now) }
+    ensures { GivesRow result (row_data r.now) }
 {
     match r {
         RowData::LeftRow(n, f, a, g, c, l) => whole(
@@ -172,11 +174,26 @@ pub fn row_of(alloc: Global, r: &RowData) -> Result<Taclet, NoMemory>
 ///
 /// `NoMemory` if memory runs out.
 pub fn rows_of(alloc: Global, table: &[RowData]) -> Result<Vec<Taclet>, NoMemory>
-    ensures { IfOk result (λ v. map taclet v.items ≡ map row_data table.now) }
+    ensures { GivesRows result (map row_data table.now) }
 {
-    let mut made = Vec::with_capacity(alloc, table.len())?;
+    let mut made = no_items(alloc, table.len());
     for r in table {
-        made.push(row_of(alloc, r)?)?;
+        made = with_row(made, row_of(alloc, r));
     }
-    Ok(made)
+    made
+}
+
+/// The rows of both.
+///
+/// # Errors
+///
+/// `NoMemory` if memory runs out.
+pub fn joined_rows(
+    a: Result<Vec<Taclet>, NoMemory>,
+    b: Result<Vec<Taclet>, NoMemory>,
+) -> Result<Vec<Taclet>, NoMemory>
+    ensures { (x y : List plain.Taclet) → GivesRows a x → GivesRows b y → GivesRows result (x ++ y) }
+{
+    let (a, b) = both(a, b)?;
+    appended(a, b)
 }

@@ -58,8 +58,8 @@ fn constant(name: Result<Vec<u8>, NoMemory>) -> Result<STerm, NoMemory>
     Ok(STerm::Constant(SName::Variable(name?)))
 }
 
-// The part in a box.
-fn part(alloc: Global, t: Result<STerm, NoMemory>) -> Result<Box<STerm>, NoMemory>
+/// The term in a box.
+pub(crate) fn boxed_term(alloc: Global, t: Result<STerm, NoMemory>) -> Result<Box<STerm>, NoMemory>
     ensures { (x : TermPattern) → GivesTerm t x → IfOk result (λ b. term_pattern b.value ≡ x) }
 {
     boxed(alloc, t?)
@@ -72,20 +72,20 @@ fn put(
 ) -> Result<STerm, NoMemory>
     ensures { (n : List ℕ) (x : TermPattern) → GivesName name n → GivesTerm t x → GivesTerm result (plain.Put n x) }
 {
-    let (name, t) = both(name, part(alloc, t))?;
+    let (name, t) = both(name, boxed_term(alloc, t))?;
     Ok(STerm::Put(name, t))
 }
 
 fn negation(alloc: Global, t: Result<STerm, NoMemory>) -> Result<STerm, NoMemory>
     ensures { (x : TermPattern) → GivesTerm t x → GivesTerm result (OnePart NegationOf x) }
 {
-    Ok(STerm::Negation(part(alloc, t)?))
+    Ok(STerm::Negation(boxed_term(alloc, t)?))
 }
 
 fn wrap(alloc: Global, t: Result<STerm, NoMemory>) -> Result<STerm, NoMemory>
     ensures { (x : TermPattern) → GivesTerm t x → GivesTerm result (OnePart WrapOf x) }
 {
-    Ok(STerm::Wrap(part(alloc, t)?))
+    Ok(STerm::Wrap(boxed_term(alloc, t)?))
 }
 
 fn arithmetic(
@@ -96,7 +96,7 @@ fn arithmetic(
 ) -> Result<STerm, NoMemory>
     ensures { (x y : TermPattern) → GivesTerm t x → GivesTerm u y → GivesTerm result (plain.Arithmetic op x y) }
 {
-    let (t, u) = both(part(alloc, t), part(alloc, u))?;
+    let (t, u) = both(boxed_term(alloc, t), boxed_term(alloc, u))?;
     Ok(STerm::Arithmetic(op, t, u))
 }
 
@@ -108,7 +108,10 @@ fn sum(
 ) -> Result<STerm, NoMemory>
     ensures { (x y z : TermPattern) → GivesTerm t x → GivesTerm u y → GivesTerm v z → GivesTerm result (plain.Sum x y z) }
 {
-    let (t, (u, v)) = both(part(alloc, t), both(part(alloc, u), part(alloc, v)))?;
+    let (t, (u, v)) = both(
+        boxed_term(alloc, t),
+        both(boxed_term(alloc, u), boxed_term(alloc, v)),
+    )?;
     Ok(STerm::Sum(t, u, v))
 }
 

@@ -3,4 +3,4 @@
 
 mod set;
 
-pub use set::Rules;
+pub use set::Base;

@@ -8,7 +8,7 @@ use Rattle.jd_schema_trees.specs.declared.formula.SFormula.TheVariants as formul
 
 abbrev pub formula_pattern : SFormula → FormulaPattern
 formula_pattern (formulas.Any n) = FormulaVar n.items
-formula_pattern (formulas.Put n t) = PutIn n.items (term_pattern t)
+formula_pattern (formulas.Put n t) = PutIn n.items (term_pattern t.value)
 formula_pattern (formulas.Lifted n) = LiftedFormula n.items
 formula_pattern formulas.TrueFormula = TrueFormula
 formula_pattern formulas.FalseFormula = FalseFormula
@@ -17,17 +17,17 @@ formula_pattern (formulas.And' p a q c) = Connected AndOf (formula_pattern a) (f
 formula_pattern (formulas.Or' p a q c) = Connected OrOf (formula_pattern a) (formula_pattern c)
 formula_pattern (formulas.Implies' p a q c) = Connected ImpliesOf (formula_pattern a) (formula_pattern c)
 formula_pattern (formulas.Iff' p a q c) = Connected IffOf (formula_pattern a) (formula_pattern c)
-formula_pattern (formulas.Equal t u) = Compared EqualOf (term_pattern t) (term_pattern u)
-formula_pattern (formulas.Less t u) = Compared LessOf (term_pattern t) (term_pattern u)
-formula_pattern (formulas.LessOrEqual t u) = Compared LessOrEqualOf (term_pattern t) (term_pattern u)
+formula_pattern (formulas.Equal t u) = Compared EqualOf (term_pattern t.value) (term_pattern u.value)
+formula_pattern (formulas.Less t u) = Compared LessOf (term_pattern t.value) (term_pattern u.value)
+formula_pattern (formulas.LessOrEqual t u) = Compared LessOrEqualOf (term_pattern t.value) (term_pattern u.value)
 formula_pattern (formulas.Forall' s p a) = Quantified ForallOf (sort_pattern s) (formula_pattern a)
 formula_pattern (formulas.Exists' s p a) = Quantified ExistsOf (sort_pattern s) (formula_pattern a)
-formula_pattern (formulas.Updated' x t p a) = Updated (name_pattern x) (term_pattern t) (formula_pattern a)
+formula_pattern (formulas.Updated' x t p a) = Updated (name_pattern x) (term_pattern t.value) (formula_pattern a)
 formula_pattern (formulas.Focus' n k c p a) = Focus n.items k.items (code_pattern c) (formula_pattern a)
 formula_pattern (formulas.Modal' m c p a) = Modal (modality_pattern m) (code_pattern c) (formula_pattern a)
-formula_pattern (formulas.InLocations t u l) = InLocations (term_pattern t) (term_pattern u) (loc_pattern l)
-formula_pattern (formulas.InInt t) = Tested InIntOf (term_pattern t)
-formula_pattern (formulas.WellFormed t) = Tested WellFormedOf (term_pattern t)
-formula_pattern (formulas.Invariant t u) = Compared InvariantOf (term_pattern t) (term_pattern u)
-formula_pattern (formulas.IsInstance k t) = Classed InstanceTest (kind_pattern k) (term_pattern t)
-formula_pattern (formulas.IsExactInstance k t) = Classed ExactTest (kind_pattern k) (term_pattern t)
+formula_pattern (formulas.InLocations t u l) = InLocations (term_pattern t.value) (term_pattern u.value) (loc_pattern l.value)
+formula_pattern (formulas.InInt t) = Tested InIntOf (term_pattern t.value)
+formula_pattern (formulas.WellFormed t) = Tested WellFormedOf (term_pattern t.value)
+formula_pattern (formulas.Invariant t u) = Compared InvariantOf (term_pattern t.value) (term_pattern u.value)
+formula_pattern (formulas.IsInstance k t) = Classed InstanceTest (kind_pattern k) (term_pattern t.value)
+formula_pattern (formulas.IsExactInstance k t) = Classed ExactTest (kind_pattern k) (term_pattern t.value)

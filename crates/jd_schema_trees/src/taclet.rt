@@ -1,6 +1,7 @@
 use crate::condition::VarCond;
 use crate::formula::SFormula;
 use crate::term::STerm;
+use jd_lists::discard;
 use jd_model::Side;
 
 /// Where a row's find stands.
@@ -37,7 +38,6 @@ pub struct InstVar {
 }
 
 /// A premise.
-#[derive(Drop)]
 pub struct TacletGoal {
     /// `+`: the found formula stays.
     pub keep: bool,
@@ -50,7 +50,6 @@ pub struct TacletGoal {
 }
 
 /// A row of rules (The KeY Book, 4.2).
-#[derive(Drop)]
 pub struct Taclet {
     /// The rule's name.
     pub name: Vec<u8>,
@@ -66,4 +65,39 @@ pub struct Taclet {
     pub conds: Vec<VarCond>,
     /// The premises; a row that closes has none.
     pub goals: Vec<TacletGoal>,
+}
+
+// Both are written out, so that they are proved here alone, and not in each crate that lets a row go.
+impl Drop for TacletGoal {
+    fn drop(self) {
+        let TacletGoal {
+            keep: _keep,
+            replace,
+            left,
+            right,
+        } = self;
+        discard(replace);
+        discard(left);
+        discard(right);
+    }
+}
+
+impl Drop for Taclet {
+    fn drop(self) {
+        let Taclet {
+            name,
+            kind: _kind,
+            find,
+            assumes,
+            insts,
+            conds,
+            goals,
+        } = self;
+        discard(name);
+        discard(find);
+        discard(assumes);
+        discard(insts);
+        discard(conds);
+        discard(goals);
+    }
 }

@@ -1,10 +1,10 @@
 use crate::heads::{SName, SSort};
 use jd_base::Sort;
+use jd_lists::discard;
 use jd_term::ArithmeticOp;
 
 /// A pattern of terms. A schema variable goes by its name.
 #[cycle(term_pattern)]
-#[derive(Drop)]
 pub enum STerm {
     /// `s`: any term.
     Any(Vec<u8>),
@@ -58,7 +58,6 @@ pub enum STerm {
 
 /// A pattern of location sets.
 #[cycle(term_pattern)]
-#[derive(Drop)]
 pub enum SLoc {
     /// `L`: any locations.
     Any(Vec<u8>),
@@ -78,4 +77,93 @@ pub enum SLoc {
     ElementRange(Box<STerm>, Box<STerm>, Box<STerm>),
     /// `(union L L)`
     Union(Box<SLoc>, Box<SLoc>),
+}
+
+#[cycle(drop_term_pattern)]
+#[inline(never)]
+fn let_go(t: Box<STerm>) {
+    let _inside = Box::into_inner(t);
+}
+
+#[cycle(drop_term_pattern)]
+#[inline(never)]
+fn let_go_loc(l: Box<SLoc>) {
+    let _inside = Box::into_inner(l);
+}
+
+// Written out, so that it is proved here alone, and not in each crate that lets a pattern go.
+impl Drop for STerm {
+    #[cycle(drop_term_pattern)]
+    fn drop(self) {
+        match self {
+            STerm::Number(_)
+            | STerm::Boolean(_)
+            | STerm::NullTerm
+            | STerm::Bound(_, _)
+            | STerm::CreatedField => {}
+            STerm::Any(n)
+            | STerm::OfSort(_, n)
+            | STerm::Literal(n)
+            | STerm::Field(n)
+            | STerm::Lifted(n)
+            | STerm::OfSimple(n) => discard(n),
+            STerm::ProgramVariable(x) | STerm::Constant(x) => discard(x),
+            STerm::Put(n, a) => {
+                discard(n);
+                let_go(a);
+            }
+            STerm::Negation(a) | STerm::Wrap(a) | STerm::Length(a) | STerm::ElementField(a) =>
+                let_go(a),
+            STerm::Arithmetic(_, a, b) | STerm::Create(a, b) => {
+                let_go(a);
+                let_go(b);
+            }
+            STerm::Sum(a, b, c) => {
+                let_go(a);
+                let_go(b);
+                let_go(c);
+            }
+            STerm::Select(s, a, b, c) => {
+                discard(s);
+                let_go(a);
+                let_go(b);
+                let_go(c);
+            }
+            STerm::Store(a, b, c, d) => {
+                let_go(a);
+                let_go(b);
+                let_go(c);
+                let_go(d);
+            }
+            STerm::Anon(a, l, b) => {
+                let_go(a);
+                let_go_loc(l);
+                let_go(b);
+            }
+        }
+    }
+}
+
+impl Drop for SLoc {
+    #[cycle(drop_term_pattern)]
+    fn drop(self) {
+        match self {
+            SLoc::NoLocations | SLoc::AllLocations => {}
+            SLoc::Any(n) | SLoc::Lifted(n) => discard(n),
+            SLoc::ObjectFields(a) | SLoc::ArrayElements(a) => let_go(a),
+            SLoc::Single(a, b) => {
+                let_go(a);
+                let_go(b);
+            }
+            SLoc::ElementRange(a, b, c) => {
+                let_go(a);
+                let_go(b);
+                let_go(c);
+            }
+            SLoc::Union(a, b) => {
+                let_go_loc(a);
+                let_go_loc(b);
+            }
+        }
+    }
 }

@@ -23,8 +23,7 @@ use jd_base::write_all;
 pub use jd_base::{Library, Sink};
 use jd_files::one_refusal;
 use jd_first_tasks::closed_first_tasks_are_kept;
-use jd_rule_rows::logic_and_integers;
-use jd_rules::Rules;
+use jd_rules::Base;
 use jd_spelled_tasks::first_tasks_are_spelled;
 use std::alloc::Global;
 
@@ -42,8 +41,8 @@ fn answered<L: Library>(alloc: Global, words: &[String], library: &mut L) -> Res
     ensures steadily { NamesSteady (word_texts words.now) (L.steady library.old) → ¬ IsErrOf result Stop.ReadFault }
 {
     first_tasks_are_spelled();
-    match logic_and_integers(alloc) {
-        Ok(rows) => answer_to(alloc, &Rules { rows }, words, library),
+    match Base::new(alloc) {
+        Ok(rules) => answer_to(alloc, &rules, words, library),
         Err(_) => Err(Stop::NoMemory),
     }
 }

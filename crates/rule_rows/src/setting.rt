@@ -1,6 +1,7 @@
 //! What steps are taken in: a program of one class, and an obligation without variables.
 
 ghost use Rattle.std.specs.Prelude.{◌≡◌, IfOk, map};
+ghost use Rattle.jd_row_data.specs.Tables.{GivesRows};
 ghost use Rattle.jd_schema_trees.specs.TacletViews.{taclet};
 ghost use Rattle.jd_table_steps.specs.Tables.{rule_rows};
 ghost use Rattle.jd_tparse.specs.Programs.{AreSomeTables};
@@ -10,8 +11,11 @@ use jd_classes::Classes;
 use jd_files::classes_of;
 use jd_lists::with;
 use jd_model::{Contracts, Sequent};
-use jd_rule_rows::logic_and_integers;
+use jd_row_data::joined_rows;
+use jd_schema_trees::Taclet;
 use jd_sequent::Obligation;
+use jd_tac_int as integers;
+use jd_tac_logic as logic;
 use jd_taclet_rules::TacletRule;
 use std::alloc::Global;
 
@@ -29,11 +33,18 @@ pub(crate) fn tables(alloc: Global, text: &[u8]) -> Result<Classes, NoMemory>
     }
 }
 
+// The rows of both tables.
+fn all_rows(alloc: Global) -> Result<Vec<Taclet>, NoMemory>
+    ensures { GivesRows result rule_rows }
+{
+    joined_rows(logic::table(alloc), integers::table(alloc))
+}
+
 /// The rules.
 pub(crate) fn rules(alloc: Global) -> Result<TacletRule, NoMemory>
     ensures { IfOk result (λ r. map taclet r.rows.items ≡ rule_rows) }
 {
-    match logic_and_integers(alloc) {
+    match all_rows(alloc) {
         Ok(rows) => Ok(TacletRule::new(rows)),
         Err(NoMemory) => Err(NoMemory),
     }

@@ -1,7 +1,7 @@
-use Rattle.std.proofs.Common.{drop, map, ◌++◌, ◌≡◌}
-use Rattle.jd_schema_trees.specs.TacletViews.{assumption}
+use Rattle.std.proofs.Common.{map, take}
 use Rattle.jd_row_data.specs.Data.{assumed_data}
+use Rattle.jd_row_data.specs.Gives.{GivesAssumptions}
 use Rattle.jd_row_data.proofs.lists.assumptions.Given as goal
 
 abbrev pub invariant-loop-a : goal.invariant-loop-a
-invariant-loop-a l = map assumption l.made.items ++ map assumed_data (drop l.a-index l.all) ≡ map assumed_data l.all
+invariant-loop-a l = GivesAssumptions l.made (map assumed_data (take l.a-index l.all))

@@ -1,7 +1,7 @@
-use Rattle.std.proofs.Common.{drop, map, ◌++◌, ◌≡◌}
-use Rattle.jd_schema_trees.specs.FormulaViews.{formula_pattern}
+use Rattle.std.proofs.Common.{map, take}
 use Rattle.jd_row_data.specs.Data.{formula_data}
+use Rattle.jd_row_data.specs.Gives.{GivesFormulas}
 use Rattle.jd_row_data.proofs.lists.formulas.Given as goal
 
 abbrev pub invariant-loop-a : goal.invariant-loop-a
-invariant-loop-a l = map formula_pattern l.made.items ++ map formula_data (drop l.a-index l.all) ≡ map formula_data l.all
+invariant-loop-a l = GivesFormulas l.made (map formula_data (take l.a-index l.all))

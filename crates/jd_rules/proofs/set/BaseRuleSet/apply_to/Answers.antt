@@ -11,7 +11,7 @@ use Rattle.jd_table_steps.proofs.Tables.{usable}
 use Rattle.jd_table_steps.specs.Tables.{rule_rows}
 use Rattle.jd_taclet_scripts.specs.Steps.{row_named}
 use Rattle.jd_rules.specs.Steps.{CauseOf, IsStepOf}
-use Rattle.jd_rules.proofs.set.RulesRuleSet.apply_to.Goals as goal
+use Rattle.jd_rules.proofs.set.BaseRuleSet.apply_to.Goals as goal
 
 pub apply_row-requires : goal.apply_row-requires
 apply_row-requires c =

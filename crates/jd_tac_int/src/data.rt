@@ -3,9 +3,8 @@
 
 ghost use Rattle.std.specs.Prelude.{drop, take};
 ghost use Rattle.jd_tac_int.specs.Integers.{integer_rows};
-ghost use Rattle.jd_rule_rows.specs.Gives.{GivesRows};
+ghost use Rattle.jd_row_data.specs.Tables.{GivesRows};
 
-use crate::joining::joined;
 use jd_base::{NoMemory, Sort};
 use jd_model::Side::Left;
 use jd_row_data::CalculationData::{Negated, Numeral, Of, Operation, Wrapped};
@@ -23,7 +22,7 @@ use jd_row_data::SortData::Only;
 use jd_row_data::TermData::{
     self, AnyTerm, Arithmetic, Bound, Literal, Negation, Number, OfSort, Put, Sum, Wrap,
 };
-use jd_row_data::{GivenData, rows_of};
+use jd_row_data::{GivenData, joined_rows, rows_of};
 use jd_schema_trees::{NumberTest, Taclet};
 use jd_term::ArithmeticOp::{Add, Divide, Multiply, Remainder, Subtract};
 use std::alloc::Global;
@@ -532,14 +531,18 @@ fn integers_5(alloc: Global) -> Result<Vec<Taclet>, NoMemory>
 }
 
 /// The rows of integers, in order.
-pub(crate) fn integers(alloc: Global) -> Result<Vec<Taclet>, NoMemory>
+///
+/// # Errors
+///
+/// `NoMemory` if memory runs out.
+pub fn table(alloc: Global) -> Result<Vec<Taclet>, NoMemory>
     ensures { GivesRows result integer_rows }
 {
-    joined(
-        joined(integers_1(alloc), integers_2(alloc)),
-        joined(
+    joined_rows(
+        joined_rows(integers_1(alloc), integers_2(alloc)),
+        joined_rows(
             integers_3(alloc),
-            joined(integers_4(alloc), integers_5(alloc)),
+            joined_rows(integers_4(alloc), integers_5(alloc)),
         ),
     )
 }

@@ -2,9 +2,8 @@
 
 ghost use Rattle.std.specs.Prelude.{drop, take};
 ghost use Rattle.jd_tac_logic.specs.Logic.{logic_rows};
-ghost use Rattle.jd_rule_rows.specs.Gives.{GivesRows};
+ghost use Rattle.jd_row_data.specs.Tables.{GivesRows};
 
-use crate::joining::joined;
 use jd_base::{NoMemory, Sort};
 use jd_model::Side::{Left, Right};
 use jd_row_data::Comparison::Equal;
@@ -19,7 +18,7 @@ use jd_row_data::Quantifier::{Exists, Forall};
 use jd_row_data::RowData::{self, FormulaRow, FreeRow, LeftRow, RightRow, TermRow};
 use jd_row_data::SortData::{AnySort, Only};
 use jd_row_data::TermData::{self, AnyTerm, Boolean, Constant, OfSort};
-use jd_row_data::{GivenData, rows_of};
+use jd_row_data::{GivenData, joined_rows, rows_of};
 use jd_schema_trees::Taclet;
 use std::alloc::Global;
 
@@ -287,11 +286,15 @@ fn logic_5(alloc: Global) -> Result<Vec<Taclet>, NoMemory>
 }
 
 /// The rows of logic, in order.
-pub(crate) fn logic(alloc: Global) -> Result<Vec<Taclet>, NoMemory>
+///
+/// # Errors
+///
+/// `NoMemory` if memory runs out.
+pub fn table(alloc: Global) -> Result<Vec<Taclet>, NoMemory>
     ensures { GivesRows result logic_rows }
 {
-    joined(
-        joined(logic_1(alloc), logic_2(alloc)),
-        joined(logic_3(alloc), joined(logic_4(alloc), logic_5(alloc))),
+    joined_rows(
+        joined_rows(logic_1(alloc), logic_2(alloc)),
+        joined_rows(logic_3(alloc), joined_rows(logic_4(alloc), logic_5(alloc))),
     )
 }

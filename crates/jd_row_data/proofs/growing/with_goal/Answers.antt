@@ -1,0 +1,6 @@
+use Rattle.jd_row_data.proofs.Additions.{one_more}
+use Rattle.jd_schema_trees.specs.TacletViews.{goal as goal_view}
+use Rattle.jd_row_data.proofs.growing.with_goal.Goals as goal
+
+pub returns : goal.returns
+returns c = λ xs x is one. one_more goal_view c.args.items c.args.item c.added.result xs x c.added.ensures is one

@@ -1,0 +1,4 @@
+use Rattle.rule_rows.proofs.setting.all_rows.Goals as goal
+
+pub returns : goal.returns
+returns c = c.joined_rows.ensures _ _ c.table.ensures c.table-2.ensures
